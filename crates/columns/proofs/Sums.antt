@@ -1,0 +1,58 @@
+-- The laws of sums over rows.
+use mathlib.Core.Path.{_≡_, ap, sym}
+use mathlib.Core.Logic.{⊎-elim}
+use Prim.Native.Nat.{ℕ, zero, suc, _+_, _*_, _≤_, _<_}
+use native.Mathlib.Nat.{lt-suc-self, le-step, le-of-suc-le-suc, eq-or-lt-of-le, le-antisymm, le-of-eq}
+use native.Mathlib.Numerals.{add-one}
+use native.Mathlib.Omega.{arith}
+use Rattle.columns.specs.Sum.{sum}
+
+pub sum-none : (f : ℕ → ℕ) → sum 0 f ≡ 0
+unfolding sum
+sum-none f = omega arith
+
+pub sum-next : (n : ℕ) (f : ℕ → ℕ) → sum (n + 1) f ≡ sum n f + f n
+unfolding sum
+sum-next n f = rw add-one
+
+pub sum-mono : (n : ℕ) (f g : ℕ → ℕ) → ((i : ℕ) → i < n → f i ≤ g i) → sum n f ≤ sum n g
+unfolding sum
+sum-mono zero f g h = omega arith
+sum-mono (suc n) f g h = omega (arith, sum-mono n f g (λ i l. h i (le-step l)), h n (lt-suc-self n))
+
+pub sum-add : (n : ℕ) (f g : ℕ → ℕ) → sum n (λ i. f i + g i) ≡ sum n f + sum n g
+unfolding sum
+sum-add zero f g = omega arith
+sum-add (suc n) f g = omega (arith, sum-add n f g)
+
+pub sum-scale : (n : ℕ) (f : ℕ → ℕ) (k : ℕ) → sum n (λ i. f i * k) ≡ sum n f * k
+unfolding sum
+sum-scale zero f k = omega arith
+sum-scale (suc n) f k = omega (arith, sum-scale n f k)
+
+pub sum-same : (n k : ℕ) → sum n (λ i. k) ≡ n * k
+unfolding sum
+sum-same zero k = omega arith
+sum-same (suc n) k = omega (arith, sum-same n k)
+
+-- a row is at most the sum
+pub row-le-sum : (n : ℕ) (f : ℕ → ℕ) (i : ℕ) → i < n → f i ≤ sum n f
+unfolding sum
+row-le-sum zero f i l = omega arith
+row-le-sum (suc n) f i l =
+    ⊎-elim (λ e. omega (arith, ap f e)) (λ k. omega (arith, row-le-sum n f i k)) (eq-or-lt-of-le (le-of-suc-le-suc l))
+
+-- columns that agree on the rows have one sum
+pub sum-cong : (n : ℕ) (f g : ℕ → ℕ) → ((i : ℕ) → i < n → f i ≡ g i) → sum n f ≡ sum n g
+sum-cong n f g h =
+    le-antisymm (sum-mono n f g (λ i l. le-of-eq (h i l))) (sum-mono n g f (λ i l. le-of-eq (sym (h i l))))
+
+-- bounded rows have a bounded sum
+pub sum-bound : (n : ℕ) (f : ℕ → ℕ) (k : ℕ) → ((i : ℕ) → i < n → f i ≤ k) → sum n f ≤ n * k
+sum-bound n f k h = omega (arith, sum-mono n f (λ i. k) h, sum-same n k)
+
+-- a sum above zero has a row
+pub sum-positive : (n : ℕ) (f : ℕ → ℕ) → 0 < sum n f → 0 < n
+unfolding sum
+sum-positive zero f h = omega arith
+sum-positive (suc n) f h = omega arith

@@ -1,0 +1,13 @@
+-- A row is a number from 0; a column gives each row its figure.
+use mathlib.Core.List.{List, [], _∷_, _++_}
+use Prim.Native.Nat.{ℕ, zero, suc}
+use lib.ListN.{getD}
+
+-- the column that a list holds
+abbrev pub col : List ℕ → ℕ → ℕ
+col xs i = getD xs i 0
+
+-- the first n rows of a column, as a list
+unfoldable pub listed : ℕ → (ℕ → ℕ) → List ℕ
+listed zero f = []
+listed (suc n) f = listed n f ++ (f n ∷ [])

@@ -1,0 +1,2 @@
+pub mod Aboves
+pub mod Checks

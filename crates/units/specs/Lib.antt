@@ -1,0 +1,4 @@
+pub mod Unit
+pub mod Bound
+pub mod Above
+pub mod Refusals
