@@ -1,0 +1,4 @@
+pub mod Largests
+pub mod Levels
+pub mod Parts
+pub mod Chains

@@ -1,0 +1,4 @@
+pub mod Largest
+pub mod Round
+pub mod Chain
+pub mod Part

@@ -1,0 +1,1 @@
+// Sharing a capacity among rows: mathematics alone, in specs/ and proofs/.
