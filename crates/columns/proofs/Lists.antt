@@ -3,11 +3,11 @@ use mathlib.Core.Path.{_≡_, refl, ap, sym, _∙_}
 use mathlib.Core.Logic.{⊎-elim}
 use mathlib.Core.List.{List, [], _∷_, _++_}
 use Prim.Native.Nat.{ℕ, zero, suc, _+_, _≤_, _<_}
-use native.Mathlib.Nat.{eq-or-lt-of-le, le-of-suc-le-suc, lt-suc-self, le-step, add-suc, suc-add, add-zero, zero-add}
+use native.Mathlib.Nat.{le-antisymm, eq-or-lt-of-le, le-of-suc-le-suc, lt-suc-self, le-step, add-suc, suc-add, add-zero, zero-add}
 use native.Mathlib.Numerals.{add-one}
 use native.Mathlib.Omega.{arith}
-use lib.ListN.{length, getD, drop, set, length-append, length-set, List·getD-append}
-use lib.Seq.{sets, sets-eq, length-sets, ext-getD, getD-at, set-at, getD-append-add}
+use lib.ListN.{length, drop, set, length-append, length-set, List·getD-append}
+use lib.Seq.{sets, sets-eq, length-sets, ext-getD, getD-at, drop-at}
 use Rattle.columns.specs.Column.{col, listed}
 
 pub length-listed : (n : ℕ) (f : ℕ → ℕ) → length (listed n f) ≡ n
@@ -39,14 +39,45 @@ sets-append : (xs ys l : List ℕ) (i : ℕ) → sets l i (xs ++ ys) ≡ sets (s
 sets-append [] ys l i = rw add-zero
 sets-append (x ∷ xs) ys l i = sets-append xs ys (set l i x) (suc i) ∙ rw (add-suc, suc-add)
 
-module _ (l : List ℕ) (f : ℕ → ℕ) where
-  pub sets-none : sets l 0 (listed 0 f) ≡ l
-  unfolding listed
-  sets-none = refl
+-- a loop has written the rows of f below `row` to the front of a lent list
+pub record Filling (lent : List ℕ) (f : ℕ → ℕ) (row : ℕ) (list : List ℕ) : Type 0 where
+  pub front : list ≡ sets lent 0 (listed row f)
+  pub long : length list ≡ length lent
 
-  pub sets-next : (n : ℕ) → sets l 0 (listed (n + 1) f) ≡ set (sets l 0 (listed n f)) n (f n)
+module _ (lent : List ℕ) (f : ℕ → ℕ) where
+  pub filling-none : Filling lent f 0 lent
   unfolding listed
-  sets-next n = rw add-one (sets-append (listed n f) (f n ∷ []) l 0 ∙ rw (zero-add, length-listed))
+  filling-none = record { front = refl; long = refl }
 
-  pub sets-length : (n : ℕ) → length (sets l 0 (listed n f)) ≡ length l
-  sets-length n = length-sets l 0 (listed n f)
+  sets-next : (row : ℕ) → sets lent 0 (listed (row + 1) f) ≡ set (sets lent 0 (listed row f)) row (f row)
+  unfolding listed
+  sets-next row = rw add-one (sets-append (listed row f) (f row ∷ []) lent 0 ∙ rw (zero-add, length-listed))
+
+  pub filling-next : (row : ℕ) (list : List ℕ) (figure : ℕ) → Filling lent f row list → figure ≡ f row
+      → Filling lent f (row + 1) (set list row figure)
+  filling-next row list figure F e =
+      record { front = rw (F .front, e) (sym (sets-next row)); long = length-set list row figure ∙ F .long }
+
+  pub filling-all : (n row : ℕ) (list : List ℕ) → Filling lent f row list → row ≤ n → n ≤ row → list ≡ sets lent 0 (listed n f)
+  filling-all n row list F h k = F .front ∙ ap (λ m. sets lent 0 (listed m f)) (le-antisymm h k)
+
+-- ---- what a filled list holds
+sets-front : (n : ℕ) (f : ℕ → ℕ) (l : List ℕ) → n ≤ length l → sets l 0 (listed n f) ≡ listed n f ++ drop n l
+sets-front n f l h = sets-eq (listed n f) l 0 (simp (length-listed, zero-add) h) ∙ rw (zero-add, length-listed)
+
+pub col-sets : (n : ℕ) (f : ℕ → ℕ) (l : List ℕ) → n ≤ length l → (i : ℕ) → i < n → col (sets l 0 (listed n f)) i ≡ f i
+col-sets n f l h i k =
+    ap (λ m. col m i) (sets-front n f l h)
+    ∙ List·getD-append (listed n f) (drop n l) 0 i (rw length-listed k)
+    ∙ col-listed n f i k
+
+pub length-sets-listed : (n : ℕ) (f : ℕ → ℕ) (l : List ℕ) → length (sets l 0 (listed n f)) ≡ length l
+length-sets-listed n f l = length-sets l 0 (listed n f)
+
+-- the rows written last stand
+pub sets-again : (n : ℕ) (f g : ℕ → ℕ) (l : List ℕ) → n ≤ length l → sets (sets l 0 (listed n f)) 0 (listed n g) ≡ sets l 0 (listed n g)
+sets-again n f g l h =
+    let lead = sets-front n g (sets l 0 (listed n f)) (rw length-sets-listed h) in
+    let rest : drop n (sets l 0 (listed n f)) ≡ drop n l =
+    ap (drop n) (sets-front n f l h) ∙ drop-at (listed n f) (drop n l) n (length-listed n f)
+    in lead ∙ ap (λ r. listed n g ++ r) rest ∙ sym (sets-front n g l h)

@@ -1,10 +1,10 @@
 -- The laws of one round, for any rows: order, the step from a level to the next, one level, and what a short row says.
-use mathlib.Core.Path.{_≡_, refl, ap, sym, _∙_}
+use mathlib.Core.Path.{_≡_, ap}
 use mathlib.Core.Logic.{_≢_, ⊎-elim, _⊎_, inl, inr}
 use mathlib.Core.Bool.{Bool}
-use Prim.Native.Nat.{ℕ, _+_, _*_, _/_, _≤_, _<_}
-use native.Mathlib.Nat.{le-antisymm, le-refl, mul-le-mul-left, mul-zero, eq-or-lt-of-le}
-use native.Mathlib.Decide.{decLe, ℕ-discrete}
+use Prim.Native.Nat.{ℕ, _+_, _*_, _≤_, _<_}
+use native.Mathlib.Nat.{le-antisymm, le-refl, mul-le-mul-left, eq-or-lt-of-le}
+use native.Mathlib.Decide.{ℕ-discrete}
 use native.Mathlib.Omega.{arith, by-contra}
 use borrow.Author.Tests.{leb-true, leb-false, le-leb}
 use lib.Dec.{leb}
@@ -123,10 +123,10 @@ module _ (n : ℕ) (v w p q : ℕ → ℕ) (ew : (i : ℕ) → i < n → v i ≡
 
   pub level-same : (c : ℕ) → level n v p c ≡ level n w q c
   level-same c = level-one n w q (record {
-        capped = L .capped;
-        fits = omega (arith, total-same (level n v p c), L .fits);
-        last = ⊎-elim (λ e. inl e) (λ g. inr (omega (arith, total-same (level n v p c + 1)))) (L .last);
-      })
+    capped = L .capped;
+    fits = omega (arith, total-same (level n v p c), L .fits);
+    last = ⊎-elim (λ e. inl e) (λ g. inr (omega (arith, total-same (level n v p c + 1)))) (L .last);
+  })
     where
       L : IsLevel n v p c (level n v p c)
       L = level-is n v p c

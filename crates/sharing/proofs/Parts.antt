@@ -1,6 +1,6 @@
 -- Shares by ratio, for all their uses: they add up to at most c and fall short by fewer than there are rows; and a round
 -- gives a row its need or its part less one.
-use mathlib.Core.Path.{_≡_, ap}
+use mathlib.Core.Path.{ap}
 use mathlib.Core.Logic.{⊎-elim}
 use Prim.Native.Nat.{ℕ, _+_, _*_, _-_, _/_, _≤_, _<_, min}
 use native.Mathlib.Nat.{

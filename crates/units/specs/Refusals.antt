@@ -30,6 +30,11 @@ abbrev pub place : Check → ℕ
 place Accepted = 0
 place (Refused x) = x .place
 
+-- x where the input is accepted, y where it is refused
+abbrev pub accepted-or : {X : Type 0} → Check → X → X → X
+accepted-or Accepted x y = x
+accepted-or (Refused r) x y = y
+
 -- a test that is kept goes on to the next; one that is not refuses, and no later one counts
 unfoldable pub keep : Bool → Refusal → Check → Check
 keep kept x next = cond kept next (Refused x)

@@ -1,0 +1,5 @@
+pub mod Passes
+pub mod Searches
+pub mod Accepting
+pub mod Determined
+pub mod Answers

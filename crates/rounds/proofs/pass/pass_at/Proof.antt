@@ -1,0 +1,102 @@
+-- The rows that the pass has gone over make the total so far; the other two sums only stay small.
+use mathlib.Core.Logic.{⊎-elim}
+use Prim.Native.Nat.{_*_, _-_, _≤_}
+use native.Mathlib.Omega.{arith}
+use borrow.Author.Needs.{needs}
+use lib.ListN.{length}
+use Rattle.rounds.proofs.Passes.{Passing, passing-none, passing-next, passing-all}
+use Rattle.rounds.proofs.pass.pass_at.Statement.{statement}
+use Rattle.rounds.proofs.pass.pass_at.Tie as tie
+
+abbrev Inv-loop : tie.InvT-loop
+Inv-loop weights needs level total₀ full₀ short₀ row₀ total full short row =
+    Passing weights needs level row total × (full ≤ row * 1_000_000) × (short ≤ row * 1_000_000)
+
+abbrev μ-loop : tie.MeasureT-loop
+μ-loop weights needs level total₀ full₀ short₀ row₀ total full short row = length weights - row
+
+loop-holds : tie.Need-loop-holds Inv-loop μ-loop
+loop-holds c = (passing-none _ _ _, omega arith, omega arith)
+
+mul-weight : tie.Need-mul-weight Inv-loop μ-loop
+mul-weight c = search needs
+
+shared-slice-read-weight : tie.Need-shared-slice-read-weight Inv-loop μ-loop
+shared-slice-read-weight c = search needs
+
+mul-need : tie.Need-mul-need Inv-loop μ-loop
+mul-need c = search needs
+
+shared-slice-read-need : tie.Need-shared-slice-read-need Inv-loop μ-loop
+shared-slice-read-need c = search needs
+
+share-at-requires : tie.Need-share-at-requires Inv-loop μ-loop
+share-at-requires c κs =
+    let turn = c .before .before in
+    let start = turn .before .before .before .before in
+    (start .pre .0 .weights (turn .before .loop .row) (turn .loop-test .taken), start .pre .1)
+
+cast-total : tie.Need-cast-total Inv-loop μ-loop
+cast-total c = search needs
+
+add-total : tie.Need-add-total Inv-loop μ-loop
+add-total c = search needs
+
+cast-short : tie.Need-cast-short Inv-loop μ-loop
+cast-short c =
+    let turn = c .before .before .before .before in
+    omega (arith, turn .before .before .before .before .pre .0 .weights (turn .before .loop .row) (turn .loop-test .taken))
+
+add-short : tie.Need-add-short Inv-loop μ-loop
+add-short c =
+    let turn = c .before .before .before .before in
+    omega (arith, turn .before .before .before .before .pre .0 .weights (turn .before .loop .row) (turn .loop-test .taken))
+
+cast-full : tie.Need-cast-full Inv-loop μ-loop
+cast-full c = search needs
+
+add-full : tie.Need-add-full Inv-loop μ-loop
+add-full c = search needs
+
+add-row : tie.Need-add-row Inv-loop μ-loop
+add-row c = search needs
+
+loop-less : tie.Need-loop-less Inv-loop μ-loop
+loop-less c = search needs
+
+loop-again : tie.Need-loop-again Inv-loop μ-loop
+loop-again c =
+    let turn = c .before .before .before .before in
+    let rows = turn .before .before .before .before .pre .0 in
+    let weight = rows .weights (turn .before .loop .row) (turn .loop-test .taken) in
+    let need = rows .needs (turn .before .loop .row) (turn .loop-test .taken) in (
+      rw (c .before .share-at .ensures) (passing-next _ _ _ rows _ _ (turn .before .loop .inv .0) (turn .loop-test .taken)),
+      ⊎-elim (λ w. omega arith) (λ w. omega arith) (c .if1 .came),
+      ⊎-elim (λ w. omega arith) (λ w. omega arith) (c .if1 .came),
+    )
+
+returns : tie.Need-returns Inv-loop μ-loop
+returns c = passing-all _ _ _ (c .before .before .before .before .pre .0) _ _ (c .before .loop .inv .0) (c .loop-test .left)
+
+pub pass-at-spec : {M : Type 1} → statement M
+pass-at-spec =
+    tie.close
+    (tie.spec
+    Inv-loop
+    μ-loop
+    loop-holds
+    mul-weight
+    shared-slice-read-weight
+    mul-need
+    shared-slice-read-need
+    share-at-requires
+    cast-total
+    add-total
+    cast-short
+    add-short
+    cast-full
+    add-full
+    add-row
+    loop-less
+    loop-again
+    returns)

@@ -1,0 +1,58 @@
+-- What `share_round` answers, and what it leaves in the lent list.
+use mathlib.Core.Path.{_≡_}
+use mathlib.Core.List.{List}
+use Prim.Native.Nat.{ℕ}
+use lib.Dec.{leb, eqb}
+use lib.ListN.{length}
+use lib.Seq.{sets}
+use Rattle.columns.specs.Column.{col, listed}
+use Rattle.columns.specs.Sum.{sum}
+use Rattle.units.specs.declared.refusal.Check.{Check}
+use Rattle.units.specs.Bound.{most-capacity, most-gigajoules, most-rows}
+use Rattle.units.specs.Refusals.{plain, keep, bounded, accepted-or}
+use Rattle.sharing.specs.Round.{level, shares}
+use Rattle.rounds.specs.declared.Given.{Given}
+use Rattle.rounds.specs.declared.Round.{Round}
+
+-- refused: 9 unequal lists; 3 the capacity, the count, a weight, a need; 7 the lent list
+unfoldable pub check : ℕ → List ℕ → List ℕ → ℕ → Check
+check c ws qs room =
+    keep (eqb (length ws) (length qs)) (plain 9)
+    (keep (leb c most-capacity) (plain 3)
+    (keep (leb (length ws) most-rows) (plain 3)
+    (bounded most-gigajoules ws
+    (bounded most-gigajoules qs
+    (keep (leb (length ws) room) (plain 7)
+    Check.Accepted)))))
+
+-- the level, and what the rows are given together
+abbrev pub given : ℕ → List ℕ → List ℕ → Given
+given c ws qs =
+    record {
+      level = level (length ws) (col ws) (col qs) c;
+      total = record { 0 = sum (length ws) (shares (length ws) (col ws) (col qs) c) };
+    }
+
+abbrev pub answer : Check → Given → Round
+answer Check.Accepted g = Round.Shared g
+answer (Check.Refused x) g = Round.Refused x
+
+-- of an answer, 01's number (0 where accepted), place, and figures (zero where refused)
+abbrev pub number : Round → ℕ
+number (Round.Shared g) = 0
+number (Round.Refused x) = x .number
+
+abbrev pub place : Round → ℕ
+place (Round.Shared g) = 0
+place (Round.Refused x) = x .place
+
+abbrev pub figures : Round → Given
+figures (Round.Shared g) = g
+figures (Round.Refused x) = record { level = 0; total = record { 0 = 0 } }
+
+-- the statement of `share_round`: its answer, and the lent list before and after
+pub record Answered (c : ℕ) (ws qs lent : List ℕ) (round : Round) (after : List ℕ) : Type 0 where
+  pub answers : round ≡ answer (check c ws qs (length lent)) (given c ws qs)
+  pub leaves :
+      after
+      ≡ accepted-or (check c ws qs (length lent)) (sets lent 0 (listed (length ws) (shares (length ws) (col ws) (col qs) c))) lent
