@@ -9,7 +9,7 @@ use Rattle.columns.specs.Column.{col, listed}
 use Rattle.columns.specs.Sum.{sum}
 use Rattle.units.specs.declared.refusal.Check.{Check}
 use Rattle.units.specs.Bound.{most-capacity, most-gigajoules, most-rows}
-use Rattle.units.specs.Refusals.{plain, keep, bounded, accepted-or}
+use Rattle.units.specs.Refusals.{_then_, keep, within, accepted-or}
 use Rattle.sharing.specs.Round.{level, shares}
 use Rattle.rounds.specs.declared.Given.{Given}
 use Rattle.rounds.specs.declared.Round.{Round}
@@ -17,13 +17,13 @@ use Rattle.rounds.specs.declared.Round.{Round}
 -- refused: 9 unequal lists; 3 the capacity, the count, a weight, a need; 7 the lent list
 unfoldable pub check : ℕ → List ℕ → List ℕ → ℕ → Check
 check c ws qs room =
-    keep (eqb (length ws) (length qs)) (plain 9)
-    (keep (leb c most-capacity) (plain 3)
-    (keep (leb (length ws) most-rows) (plain 3)
-    (bounded most-gigajoules ws
-    (bounded most-gigajoules qs
-    (keep (leb (length ws) room) (plain 7)
-    Check.Accepted)))))
+    Check.Accepted
+    then keep (eqb (length ws) (length qs)) 9
+    then keep (leb c most-capacity) 3
+    then keep (leb (length ws) most-rows) 3
+    then within most-gigajoules ws
+    then within most-gigajoules qs
+    then keep (leb (length ws) room) 7
 
 -- the level, and what the rows are given together
 abbrev pub given : ℕ → List ℕ → List ℕ → Given

@@ -35,10 +35,20 @@ abbrev pub accepted-or : {X : Type 0} → Check → X → X → X
 accepted-or Accepted x y = x
 accepted-or (Refused r) x y = y
 
--- a test that is kept goes on to the next; one that is not refuses, and no later one counts
-unfoldable pub keep : Bool → Refusal → Check → Check
-keep kept x next = cond kept next (Refused x)
+-- of two tests the first that refuses wins
+infixl 20 _then_
+unfoldable pub _then_ : Check → Check → Check
+Accepted then next = next
+(Refused x) then next = Refused x
+
+-- refused by number unless kept
+unfoldable pub keep : Bool → ℕ → Check
+keep kept number = cond kept Accepted (Refused (plain number))
+
+-- refused by number at the row found, unless it is past the rows
+unfoldable pub clear : ℕ → ℕ → ℕ → Check
+clear rows found number = cond (leb rows found) Accepted (Refused (at-row number found))
 
 -- 3 at the lowest row beyond its bound
-abbrev pub bounded : ℕ → List ℕ → Check → Check
-bounded most xs next = keep (leb (length xs) (first-above most xs)) (at-row 3 (first-above most xs)) next
+abbrev pub within : ℕ → List ℕ → Check
+within most xs = clear (length xs) (first-above most xs) 3
