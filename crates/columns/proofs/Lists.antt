@@ -1,13 +1,14 @@
 -- A column as a list, and as what a loop writes to a lent list row by row.
-use mathlib.Core.Path.{_≡_, refl, ap, sym, _∙_}
+use mathlib.Core.Path.{_≡_, refl, ap, sym, _∙_, fun-ext}
 use mathlib.Core.Logic.{⊎-elim}
 use mathlib.Core.List.{List, [], _∷_, _++_}
-use Prim.Native.Nat.{ℕ, zero, suc, _+_, _≤_, _<_}
+use Prim.Native.Nat.{ℕ, zero, suc, _+_, _-_, _≤_, _<_}
 use native.Mathlib.Nat.{le-antisymm, eq-or-lt-of-le, le-of-suc-le-suc, lt-suc-self, le-step, add-suc, suc-add, add-zero, zero-add}
 use native.Mathlib.Numerals.{add-one}
+use native.Mathlib.Decide.{decLt}
 use native.Mathlib.Omega.{arith}
-use lib.ListN.{length, drop, set, length-append, length-set, List·getD-append}
-use lib.Seq.{sets, sets-eq, length-sets, ext-getD, getD-at, drop-at}
+use lib.ListN.{length, take, drop, set, length-append, length-set, List·getD-append, List·getD-eq-default}
+use lib.Seq.{sets, sets-eq, length-sets, ext-getD, getD-at, getD-drop, getD-append-add, take-at, drop-at}
 use Rattle.columns.specs.Column.{col, listed}
 
 pub length-listed : (n : ℕ) (f : ℕ → ℕ) → length (listed n f) ≡ n
@@ -22,6 +23,14 @@ col-listed (suc n) f i l =
     ⊎-elim (λ e. ap (col (listed n f ++ (f n ∷ []))) e ∙ getD-at (listed n f) (f n) [] 0 n (length-listed n f) ∙ ap f (sym e))
     (λ k. List·getD-append (listed n f) (f n ∷ []) 0 i (rw length-listed k) ∙ col-listed n f i k)
     (eq-or-lt-of-le (le-of-suc-le-suc l))
+
+-- a column that is zero past its rows is what its list holds
+pub col-whole : (n : ℕ) (f : ℕ → ℕ) → ((i : ℕ) → n ≤ i → f i ≡ 0) → col (listed n f) ≡ f
+col-whole n f zeros = fun-ext (λ i. by i (decLt i n))
+  where
+    by : (i : ℕ) → Dec (i < n) → col (listed n f) i ≡ f i
+    by i (yes l) = col-listed n f i l
+    by i (no h) = List·getD-eq-default (listed n f) 0 (rw length-listed (omega arith)) ∙ sym (zeros i (omega arith))
 
 -- columns that agree on the rows are one list
 pub listed-same : (n : ℕ) (f g : ℕ → ℕ) → ((i : ℕ) → i < n → f i ≡ g i) → listed n f ≡ listed n g
@@ -73,6 +82,24 @@ col-sets n f l h i k =
 
 pub length-sets-listed : (n : ℕ) (f : ℕ → ℕ) (l : List ℕ) → length (sets l 0 (listed n f)) ≡ length l
 length-sets-listed n f l = length-sets l 0 (listed n f)
+
+-- a row past those written is as it was
+pub past-sets : (n : ℕ) (f : ℕ → ℕ) (l : List ℕ) → n ≤ length l → (i : ℕ) → n ≤ i → col (sets l 0 (listed n f)) i ≡ col l i
+past-sets n f l h i k =
+    let at : length (listed n f) + (i - n) ≡ i = omega (arith, length-listed n f) in
+    let from : n + (i - n) ≡ i = omega arith in
+    ap (λ m. col m i) (sets-front n f l h)
+    ∙ ap (col (listed n f ++ drop n l)) (sym at)
+    ∙ getD-append-add (listed n f) (drop n l) (i - n) 0
+    ∙ getD-drop n l (i - n) 0
+    ∙ ap (col l) from
+
+pub filling-past : (f : ℕ → ℕ) (row : ℕ) (lent list : List ℕ) → Filling lent f row list → row ≤ length lent
+    → (i : ℕ) → row ≤ i → col list i ≡ col lent i
+filling-past f row lent list F h i k = ap (λ m. col m i) (F .front) ∙ past-sets row f lent h i k
+
+pub take-sets : (n : ℕ) (f : ℕ → ℕ) (l : List ℕ) → n ≤ length l → take n (sets l 0 (listed n f)) ≡ listed n f
+take-sets n f l h = ap (take n) (sets-front n f l h) ∙ take-at (listed n f) (drop n l) n (length-listed n f)
 
 -- the rows written last stand
 pub sets-again : (n : ℕ) (f g : ℕ → ℕ) (l : List ℕ) → n ≤ length l → sets (sets l 0 (listed n f)) 0 (listed n g) ≡ sets l 0 (listed n g)

@@ -1,22 +1,16 @@
 -- What acceptance says of a round's input, and what accepts it.
 use mathlib.Core.Path.{_≡_, refl}
 use mathlib.Core.List.{List}
-use Prim.Native.Nat.{ℕ, _≤_}
+use Prim.Native.Nat.{ℕ}
 use native.Mathlib.Omega.{arith}
 use borrow.Author.Tests.{leb-true, eqb-true, le-leb, eq-eqb}
 use lib.ListN.{length}
 use Rattle.units.specs.declared.refusal.Check.{Check}
-use Rattle.units.specs.Bound.{most-capacity}
 use Rattle.units.proofs.Checks.{both-accepted, kept, all-within, accepts-both, accepts-kept, accepts-within}
-use Rattle.rounds.specs.Rows.{Rows}
+use Rattle.rounds.specs.Rows.{Ready}
 use Rattle.rounds.specs.Answer.{check}
 
-pub record Accepting (c : ℕ) (ws qs : List ℕ) (room : ℕ) : Type 0 where
-  pub rows : Rows ws qs
-  pub capacity : c ≤ most-capacity
-  pub fits : length ws ≤ room
-
-pub accepting : (c : ℕ) (ws qs : List ℕ) (room : ℕ) → check c ws qs room ≡ Check.Accepted → Accepting c ws qs room
+pub accepting : (c : ℕ) (ws qs : List ℕ) (room : ℕ) → check c ws qs room ≡ Check.Accepted → Ready c ws qs room
 unfolding check
 accepting c ws qs room e =
     let lent = both-accepted _ _ e in
@@ -38,7 +32,7 @@ accepting c ws qs room e =
       fits = leb-true _ _ (kept _ _ (lent .1));
     }
 
-pub accepts : (c : ℕ) (ws qs : List ℕ) (room : ℕ) → Accepting c ws qs room → check c ws qs room ≡ Check.Accepted
+pub accepts : (c : ℕ) (ws qs : List ℕ) (room : ℕ) → Ready c ws qs room → check c ws qs room ≡ Check.Accepted
 unfolding check
 accepts c ws qs room A =
     accepts-both (accepts-both (accepts-both (accepts-both (accepts-both (accepts-both refl

@@ -6,10 +6,6 @@ use Rattle.sharing.specs.Round.{shares}
 abbrev pub unmet : (ℕ → ℕ) → (ℕ → ℕ) → ℕ → ℕ
 unmet q s i = q i - s i
 
--- what the rows have been given before the first round
-abbrev pub nothing : ℕ → ℕ
-nothing i = 0
-
--- and after a further round with the capacity c and the weights w
+-- what the rows have been given after a further round with the capacity c and the weights w
 unfoldable pub after : ℕ → (ℕ → ℕ) → (ℕ → ℕ) → ℕ → (ℕ → ℕ) → ℕ → ℕ
 after n w q c s i = s i + shares n w (unmet q s) c i

@@ -44,6 +44,16 @@ pub enum Check {
 }
 
 impl Check {
+    // The earlier refusal, or what comes next.
+    pub fn then(self, next: Check) -> Self
+        ensures { λ r. ⌜ r ≡ (self then next) ⌝ }
+    {
+        match self {
+            Check::Refused(refusal) => Check::Refused(refusal),
+            Check::Accepted => next,
+        }
+    }
+
     // Refused by number, unless kept.
     pub fn keep(self, kept: bool, number: u8) -> Self
         ensures { λ r. ⌜ r ≡ (self then keep kept number) ⌝ }

@@ -1,19 +1,22 @@
 -- Every row that the search has passed is within the bound, so the row that it stops at is the first above it.
 use Prim.Native.Nat.{_-_}
 use borrow.Author.Needs.{needs}
+use borrow.Author.Tests.{lt-ltb, le-ltb}
+use lib.Dec.{ltb}
 use lib.ListN.{length}
-use Rattle.units.proofs.Aboves.{Within, within-none, within-more, stops, ends}
+use Rattle.columns.specs.Column.{col}
+use Rattle.columns.proofs.Firsts.{Searched, searched-none, searched-more, stops, ends}
 use Rattle.units.proofs.above.first_megajoules_above.Statement.{statement}
 use Rattle.units.proofs.above.first_megajoules_above.Tie as tie
 
 abbrev Inv-loop : tie.InvT-loop
-Inv-loop figures most row₀ row = Within (most .0) figures row
+Inv-loop figures most row₀ row = Searched (λ i. ltb (most .0) (col figures i)) (length figures) row
 
 abbrev μ-loop : tie.MeasureT-loop
 μ-loop figures most row₀ row = length figures - row
 
 loop-holds : tie.Need-loop-holds Inv-loop μ-loop
-loop-holds c = within-none _ _
+loop-holds c = searched-none _ _
 
 mul-if1 : tie.Need-mul-if1 Inv-loop μ-loop
 mul-if1 c = search needs
@@ -22,7 +25,7 @@ shared-slice-read-if1 : tie.Need-shared-slice-read-if1 Inv-loop μ-loop
 shared-slice-read-if1 c = search needs
 
 returns : tie.Need-returns Inv-loop μ-loop
-returns c = stops _ _ _ (c .before .before .before .before .loop .inv) (c .before .before .before .loop-test .taken) (c .if1 .taken)
+returns c = stops _ _ _ (c .before .before .before .before .loop .inv) (c .before .before .before .loop-test .taken) (lt-ltb _ _ (c .if1 .taken))
 
 add-row : tie.Need-add-row Inv-loop μ-loop
 add-row c = search needs
@@ -31,7 +34,7 @@ loop-less : tie.Need-loop-less Inv-loop μ-loop
 loop-less c = search needs
 
 loop-again : tie.Need-loop-again Inv-loop μ-loop
-loop-again c = within-more _ _ _ (c .before .before .before .before .loop .inv) (c .before .before .before .loop-test .taken) (c .if1 .left)
+loop-again c = searched-more _ _ _ (c .before .before .before .before .loop .inv) (c .before .before .before .loop-test .taken) (le-ltb _ _ (c .if1 .left))
 
 returns-2 : tie.Need-returns-2 Inv-loop μ-loop
 returns-2 c = ends _ _ _ (c .before .loop .inv) (c .loop-test .left)

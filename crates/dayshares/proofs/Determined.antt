@@ -1,0 +1,17 @@
+-- Two answers that meet the statement of `share_day` are equal, and so are the three lent lists afterwards.
+use mathlib.Core.Path.{_≡_, sym, _∙_}
+use mathlib.Core.List.{List}
+use Prim.Native.Nat.{ℕ}
+use Rattle.dayshares.specs.declared.Day.{Day}
+use Rattle.dayshares.specs.Table.{Table}
+use Rattle.dayshares.specs.Answer.{Answered}
+
+pub day-determined : {T : Table} {firm auction lower-tier : List ℕ} {d₁ d₂ : Day} {f₁ f₂ a₁ a₂ l₁ l₂ : List ℕ}
+    → Answered T firm auction lower-tier d₁ f₁ a₁ l₁ → Answered T firm auction lower-tier d₂ f₂ a₂ l₂
+    → (d₁ ≡ d₂) × (f₁ ≡ f₂) × (a₁ ≡ a₂) × (l₁ ≡ l₂)
+day-determined a b = (
+  a .answers ∙ sym (b .answers),
+  a .leaves-firm ∙ sym (b .leaves-firm),
+  a .leaves-auction ∙ sym (b .leaves-auction),
+  a .leaves-lower-tier ∙ sym (b .leaves-lower-tier),
+)

@@ -1,0 +1,12 @@
+pub mod Firms
+pub mod Classes
+pub mod Holding
+pub mod Furthering
+pub mod Chaining
+pub mod ThreeRounds
+pub mod Splitting
+pub mod Offering
+pub mod Days
+pub mod Accepting
+pub mod Answers
+pub mod Determined

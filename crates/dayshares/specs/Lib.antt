@@ -1,0 +1,5 @@
+pub mod Firm
+pub mod Class
+pub mod Table
+pub mod Answer
+pub mod Leaves
