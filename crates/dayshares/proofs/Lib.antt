@@ -10,3 +10,5 @@ pub mod Days
 pub mod Accepting
 pub mod Answers
 pub mod Determined
+pub mod Promises
+pub mod Figures

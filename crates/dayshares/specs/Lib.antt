@@ -3,3 +3,4 @@ pub mod Class
 pub mod Table
 pub mod Answer
 pub mod Leaves
+pub mod Promise
