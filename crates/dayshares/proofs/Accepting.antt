@@ -1,139 +1,43 @@
--- What acceptance says of a day's table.
-use mathlib.Core.Path.{_≡_, refl, sym, _∙_}
-use mathlib.Core.Bool.{false}
-use mathlib.Core.List.{List}
-use Prim.Native.Nat.{ℕ, _≤_, _<_}
-use native.Mathlib.Nat.{eq-zero-or-pos}
+-- An accepted table is ready to be shared.
+use mathlib.Core.Path.{refl, sym, _∙_}
+use Prim.Native.Nat.{ℕ}
 use native.Mathlib.Omega.{arith}
-use mathlib.Core.Logic.{⊎-elim}
-use borrow.Author.Tests.{leb-true, eqb-true, eq-eqb, ltb-false}
-use lib.Dec.{ltb}
-use lib.ListN.{length}
-use Rattle.columns.specs.Column.{col}
-use Rattle.columns.proofs.Firsts.{first-passed}
-use Rattle.units.specs.declared.refusal.Check.{Check}
-use Rattle.units.specs.Bound.{most-gigajoules, most-rows}
-use Rattle.units.proofs.Checks.{both-accepted, kept, cleared, all-within}
-use Rattle.sharing.specs.Round.{Weighted}
-use Rattle.dayshares.specs.Table.{Table, rows}
-use Rattle.dayshares.specs.Answer.{lengths, figures, idle, first-idle, check}
+use Rattle.daytable.specs.Table.{Table}
+use Rattle.daytable.proofs.Accepting.{Accepting}
 use Rattle.dayshares.specs.Leaves.{DayReady}
 
--- a row that is not idle and has a need has a weight
-not-idle : (mdq schedule : ℕ) → idle mdq schedule ≡ false → 0 < schedule → 0 < mdq
-not-idle mdq schedule e l =
-    ⊎-elim (λ zero. let h : ltb 0 schedule ≡ false = rw (eq-eqb mdq 0 zero) at e in absurd (omega (arith, ltb-false 0 schedule h)))
-    (λ pos. pos) (eq-zero-or-pos mdq)
-
-none-idle : (mdqs schedules : List ℕ) → length mdqs ≤ first-idle mdqs schedules → Weighted (length mdqs) (col mdqs) (col schedules)
-none-idle mdqs schedules h i l =
-    not-idle (col mdqs i) (col schedules i) (first-passed (λ k. idle (col mdqs k) (col schedules k)) (length mdqs) h i l)
-
--- the lists are as long as the first
-record Long (T : Table) : Type 0 where
-  auction-mdq : rows T ≡ length (T .auction-mdq)
-  firm-schedule : rows T ≡ length (T .firm-schedule)
-  auction-schedule : rows T ≡ length (T .auction-schedule)
-  lower-tier-schedule : rows T ≡ length (T .lower-tier-schedule)
-
-long : (T : Table) → lengths T ≡ Check.Accepted → Long T
-unfolding lengths
-long T e =
-    let a = both-accepted _ _ e in
-    let b = both-accepted _ _ (a .0) in
-    let c = both-accepted _ _ (b .0) in
-    let d = both-accepted _ _ (c .0) in
+pub ready : (T : Table) (firm-room auction-room lower-tier-room : ℕ) → Accepting T firm-room auction-room lower-tier-room
+    → DayReady T firm-room auction-room lower-tier-room
+ready T firm-room auction-room lower-tier-room A =
+    let L = A .long in
+    let B = A .bounded in
     record {
-      auction-mdq = eqb-true _ _ (kept _ _ (d .1));
-      firm-schedule = eqb-true _ _ (kept _ _ (c .1));
-      auction-schedule = eqb-true _ _ (kept _ _ (b .1));
-      lower-tier-schedule = eqb-true _ _ (kept _ _ (a .1));
-    }
-
--- every figure is within its bound
-record Bounded (T : Table) : Type 0 where
-  free-flow : T .free-flow ≤ most-gigajoules
-  compressor : T .compressor ≤ most-gigajoules
-  few : rows T ≤ most-rows
-  firm-mdq : (i : ℕ) → i < length (T .firm-mdq) → col (T .firm-mdq) i ≤ most-gigajoules
-  auction-mdq : (i : ℕ) → i < length (T .auction-mdq) → col (T .auction-mdq) i ≤ most-gigajoules
-  firm-schedule : (i : ℕ) → i < length (T .firm-schedule) → col (T .firm-schedule) i ≤ most-gigajoules
-  auction-schedule : (i : ℕ) → i < length (T .auction-schedule) → col (T .auction-schedule) i ≤ most-gigajoules
-  lower-tier-schedule : (i : ℕ) → i < length (T .lower-tier-schedule) → col (T .lower-tier-schedule) i ≤ most-gigajoules
-
-bounded : (T : Table) → figures T ≡ Check.Accepted → Bounded T
-unfolding figures
-bounded T e =
-    let a = both-accepted _ _ e in
-    let b = both-accepted _ _ (a .0) in
-    let c = both-accepted _ _ (b .0) in
-    let d = both-accepted _ _ (c .0) in
-    let f = both-accepted _ _ (d .0) in
-    let g = both-accepted _ _ (f .0) in
-    let h = both-accepted _ _ (g .0) in
-    let k = both-accepted _ _ (h .0) in
-    record {
-      free-flow = leb-true _ _ (kept _ _ (k .1));
-      compressor = leb-true _ _ (kept _ _ (h .1));
-      few = leb-true _ _ (kept _ _ (g .1));
-      firm-mdq = all-within _ (T .firm-mdq) (f .1);
-      auction-mdq = all-within _ (T .auction-mdq) (d .1);
-      firm-schedule = all-within _ (T .firm-schedule) (c .1);
-      auction-schedule = all-within _ (T .auction-schedule) (b .1);
-      lower-tier-schedule = all-within _ (T .lower-tier-schedule) (a .1);
-    }
-
-pub record Accepting (T : Table) (firm-room auction-room lower-tier-room : ℕ) : Type 0 where
-  pub ready : DayReady T firm-room auction-room lower-tier-room
-  pub firm-weighted : Weighted (rows T) (col (T .firm-mdq)) (col (T .firm-schedule))
-  pub auction-weighted : Weighted (rows T) (col (T .auction-mdq)) (col (T .auction-schedule))
-
-pub accepting : (T : Table) (firm-room auction-room lower-tier-room : ℕ)
-    → check T firm-room auction-room lower-tier-room ≡ Check.Accepted → Accepting T firm-room auction-room lower-tier-room
-unfolding check
-accepting T firm-room auction-room lower-tier-room e =
-    let lower-tier-lent = both-accepted _ _ e in
-    let auction-lent = both-accepted _ _ (lower-tier-lent .0) in
-    let firm-lent = both-accepted _ _ (auction-lent .0) in
-    let auction-idle = both-accepted _ _ (firm-lent .0) in
-    let firm-idle = both-accepted _ _ (auction-idle .0) in
-    let tested = both-accepted _ _ (firm-idle .0) in
-    let L = long T (tested .0) in
-    let B = bounded T (tested .1) in
-    record {
-      ready =
+      free-flow-small = B .free-flow;
+      compressor-small = B .compressor;
+      firm =
           record {
-            free-flow-small = B .free-flow;
-            compressor-small = B .compressor;
-            firm =
-                record {
-                  same = L .firm-schedule;
-                  few = B .few;
-                  weights = B .firm-mdq;
-                  needs = λ i l. B .firm-schedule i (omega (arith, L .firm-schedule));
-                };
-            auction =
-                record {
-                  same = sym (L .auction-mdq) ∙ L .auction-schedule;
-                  few = omega (arith, L .auction-mdq, B .few);
-                  weights = B .auction-mdq;
-                  needs = λ i l. B .auction-schedule i (omega (arith, L .auction-mdq, L .auction-schedule));
-                };
-            lower-tier =
-                record {
-                  same = refl;
-                  few = omega (arith, L .lower-tier-schedule, B .few);
-                  weights = B .lower-tier-schedule;
-                  needs = B .lower-tier-schedule;
-                };
-            auction-same = sym (L .auction-mdq);
-            lower-tier-same = sym (L .lower-tier-schedule);
-            firm-fits = leb-true _ _ (kept _ _ (firm-lent .1));
-            auction-fits = leb-true _ _ (kept _ _ (auction-lent .1));
-            lower-tier-fits = leb-true _ _ (kept _ _ (lower-tier-lent .1));
+            same = L .firm-schedule;
+            few = B .few;
+            weights = B .firm-mdq;
+            needs = λ i l. B .firm-schedule i (omega (arith, L .firm-schedule));
           };
-      firm-weighted = none-idle (T .firm-mdq) (T .firm-schedule) (cleared _ _ _ (firm-idle .1));
-      auction-weighted =
-          λ i l. none-idle (T .auction-mdq) (T .auction-schedule) (rw (L .auction-mdq) at (cleared _ _ _ (auction-idle .1))) i
-          (omega (arith, L .auction-mdq));
+      auction =
+          record {
+            same = sym (L .auction-mdq) ∙ L .auction-schedule;
+            few = omega (arith, L .auction-mdq, B .few);
+            weights = B .auction-mdq;
+            needs = λ i l. B .auction-schedule i (omega (arith, L .auction-mdq, L .auction-schedule));
+          };
+      lower-tier =
+          record {
+            same = refl;
+            few = omega (arith, L .lower-tier-schedule, B .few);
+            weights = B .lower-tier-schedule;
+            needs = B .lower-tier-schedule;
+          };
+      auction-same = sym (L .auction-mdq);
+      lower-tier-same = sym (L .lower-tier-schedule);
+      firm-fits = A .firm-fits;
+      auction-fits = A .auction-fits;
+      lower-tier-fits = A .lower-tier-fits;
     }

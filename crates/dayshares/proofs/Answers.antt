@@ -6,8 +6,9 @@ use Rattle.units.specs.declared.refusal.Refusal.{Refusal}
 use Rattle.units.specs.declared.refusal.Check.{Check}
 use Rattle.dayshares.specs.declared.Shares.{Shares}
 use Rattle.dayshares.specs.declared.Day.{Day}
-use Rattle.dayshares.specs.Table.{Table}
-use Rattle.dayshares.specs.Answer.{check, Answered}
+use Rattle.daytable.specs.Table.{Table}
+use Rattle.daytable.specs.Acceptance.{check}
+use Rattle.dayshares.specs.Answer.{Answered}
 use Rattle.dayshares.specs.Leaves.{DayShared}
 
 module _ (T : Table) (firm auction lower-tier : List Prim.Native.Nat.ℕ) where

@@ -14,72 +14,104 @@ use Rattle.rounds.specs.declared.Given.{Given}
 use Rattle.rounds.specs.Rows.{Ready}
 use Rattle.dayshares.specs.Leaves.{Held, NextReady, NextHeld}
 
-module _ (c : ℕ) (ws qs had : List ℕ) (R : NextReady c ws qs had) where
+-- ---- the needs are made
+pub record Needed : Type 0 where
+  pub c : ℕ
+  pub ws : List ℕ
+  pub qs : List ℕ
+  pub had : List ℕ
+  pub ready : NextReady c ws qs had
+  pub lent : List ℕ
+  pub made : List ℕ
+  pub room : length ws ≤ length lent
+  pub is : made ≡ sets lent 0 (listed (length qs) (unmet (col qs) (col had)))
+
+module _ (S : Needed) where
+  open Needed S using (c, ws, qs, had, ready, lent, made, room, is)
+
+  abbrev needs : List ℕ
+  needs = take (length ws) made
+
+  needs-are : needs ≡ listed (length ws) (unmet (col qs) (col had))
+  needs-are =
+      ap (take (length ws)) (is ∙ ap (λ n. sets lent 0 (listed n (unmet (col qs) (col had)))) (sym (ready .rows .same)))
+      ∙ take-sets (length ws) (unmet (col qs) (col had)) lent room
+
   -- what is unmet is zero past the rows, whatever stands there of what they had
-  unmet-whole : col (listed (length ws) (unmet (col qs) (col had))) ≡ unmet (col qs) (col had)
-  unmet-whole =
-      col-whole (length ws) (unmet (col qs) (col had))
-      (λ i h. omega (arith, List·getD-eq-default qs 0 {n = i} (omega (arith, R .rows .same))))
+  needs-whole : col needs ≡ unmet (col qs) (col had)
+  needs-whole =
+      ap col needs-are
+      ∙ col-whole (length ws) (unmet (col qs) (col had))
+      (λ i h. omega (arith, List·getD-eq-default qs 0 {n = i} (omega (arith, ready .rows .same))))
 
-  pub needs-made : (lent made : List ℕ) → length ws ≤ length lent → made ≡ sets lent 0 (listed (length qs) (unmet (col qs) (col had)))
-      → take (length ws) made ≡ listed (length ws) (unmet (col qs) (col had))
-  needs-made lent made h e =
-      ap (take (length ws)) (e ∙ ap (λ n. sets lent 0 (listed n (unmet (col qs) (col had)))) (sym (R .rows .same)))
-      ∙ take-sets (length ws) (unmet (col qs) (col had)) lent h
+  pub needs-long : length ws ≡ length needs
+  needs-long = sym (ap length needs-are ∙ length-listed (length ws) (unmet (col qs) (col had)))
 
-  module _ (needs : List ℕ) (are : needs ≡ listed (length ws) (unmet (col qs) (col had))) where
-    needs-whole : col needs ≡ unmet (col qs) (col had)
-    needs-whole = ap col are ∙ unmet-whole
+  pub next-ready : (room : ℕ) → length ws ≤ room → Ready c ws needs room
+  next-ready room h =
+      record {
+        rows =
+            record {
+              same = needs-long;
+              few = ready .rows .few;
+              weights = ready .rows .weights;
+              needs = λ i l. omega (arith, ap (λ f. f i) needs-whole, ready .rows .needs i l);
+            };
+        capacity = ready .capacity;
+        fits = h;
+      }
 
-    pub needs-long : length ws ≡ length needs
-    needs-long = sym (ap length are ∙ length-listed (length ws) (unmet (col qs) (col had)))
+-- ---- the round is held
+pub record Further : Type 0 where
+  pub needed : Needed
+  pub lent : List ℕ
+  pub room : length (needed .ws) ≤ length lent
+  pub given : Given
+  pub shared : List ℕ
+  pub held : Held (needed .c) (needed .ws) (needs needed) lent given shared
 
-    pub next-ready : (room : ℕ) → length ws ≤ room → Ready c ws needs room
-    next-ready room h =
-        record {
-          rows =
-              record {
-                same = needs-long;
-                few = R .rows .few;
-                weights = R .rows .weights;
-                needs = λ i l. omega (arith, ap (λ f. f i) needs-whole, R .rows .needs i l);
-              };
-          capacity = R .capacity;
-          fits = h;
-        }
+module _ (S : Further) where
+  open Further S using (lent, room, given, shared, held)
+  open Needed (S .needed) using (c, ws, qs, had, ready)
 
-    module _ (lent : List ℕ) (g : Given) (shared : List ℕ) (h : length ws ≤ length lent) (H : Held c ws needs lent g shared) where
-      more-shared : take (length ws) shared ≡ listed (length ws) (shares (length ws) (col ws) (unmet (col qs) (col had)) c)
-      more-shared =
-          ap (take (length ws)) (H .leaves)
-          ∙ take-sets (length ws) (shares (length ws) (col ws) (col needs) c) lent h
-          ∙ ap (λ f. listed (length ws) (shares (length ws) (col ws) f c)) needs-whole
+  abbrev more : List ℕ
+  more = take (length ws) shared
 
-      pub more-long : length ws ≡ length (take (length ws) shared)
-      more-long = sym (ap length more-shared ∙ length-listed (length ws) (shares (length ws) (col ws) (unmet (col qs) (col had)) c))
+  further : ℕ → ℕ
+  further = shares (length ws) (col ws) (unmet (col qs) (col had)) c
 
-      more-at : (i : ℕ) → i < length ws → col (take (length ws) shared) i ≡ shares (length ws) (col ws) (unmet (col qs) (col had)) c i
-      more-at i l =
-          ap (λ m. col m i) more-shared ∙ col-listed (length ws) (shares (length ws) (col ws) (unmet (col qs) (col had)) c) i l
+  more-is : more ≡ listed (length ws) further
+  unfolding further
+  more-is =
+      ap (take (length ws)) (held .leaves)
+      ∙ take-sets (length ws) (shares (length ws) (col ws) (col (needs (S .needed))) c) lent room
+      ∙ ap (λ f. listed (length ws) (shares (length ws) (col ws) f c)) (needs-whole (S .needed))
 
-      -- no row gets more than its schedule, so the sums fit
-      pub adds : (length (take (length ws) shared) ≤ length had)
-          × ((i : ℕ) → i < length (take (length ws) shared) → col had i + col (take (length ws) shared) i ≤ 1_000_000)
-      adds =
-          (omega (arith, more-long, R .fits), λ i l. within i (omega (arith, more-long)))
-        where
-          within : (i : ℕ) → i < length ws → col had i + col (take (length ws) shared) i ≤ 1_000_000
-          within i l = omega (arith, more-at i l, R .within i l, R .rows .needs i l)
+  pub more-long : length ws ≡ length more
+  more-long = sym (ap length more-is ∙ length-listed (length ws) further)
 
-      pub next-held : (has : List ℕ)
-          → has ≡ sets had 0 (listed (length (take (length ws) shared)) (λ i. col had i + col (take (length ws) shared) i))
-          → NextHeld c ws qs had g has
-      unfolding after
-      next-held has e =
-          record {
-            level = ap (λ g. g .level) (H .gives) ∙ ap (λ f. level (length ws) (col ws) f c) needs-whole;
-            total = ap (λ g. g .total .0) (H .gives) ∙ ap (λ f. sum (length ws) (shares (length ws) (col ws) f c)) needs-whole;
-            leaves = e ∙ ap (sets had 0) (ap (λ n. listed n (λ i. col had i + col (take (length ws) shared) i)) (sym more-long)
-                ∙ listed-same (length ws) (λ i. col had i + col (take (length ws) shared) i) (after (length ws) (col ws) (col qs) c (col had))
-                (λ i l. ap (λ x. col had i + x) (more-at i l)));
-          }
+  more-at : (i : ℕ) → i < length ws → col more i ≡ further i
+  more-at i l = ap (λ m. col m i) more-is ∙ col-listed (length ws) further i l
+
+  -- no row gets more than its schedule, so the sums fit
+  pub adds : (length more ≤ length had) × ((i : ℕ) → i < length more → col had i + col more i ≤ 1_000_000)
+  unfolding further
+  adds = (omega (arith, more-long, ready .fits), λ i l. within i (omega (arith, more-long)))
+    where
+      within : (i : ℕ) → i < length ws → col had i + col more i ≤ 1_000_000
+      within i l = omega (arith, more-at i l, ready .within i l, ready .rows .needs i l)
+
+  pub next-held : (has : List ℕ) → has ≡ sets had 0 (listed (length more) (λ i. col had i + col more i)) → NextHeld c ws qs had given has
+  unfolding further after
+  next-held has e =
+      record {
+        level = ap (λ g. g .level) (held .gives) ∙ ap (λ f. level (length ws) (col ws) f c) (needs-whole (S .needed));
+        total =
+            ap (λ g. g .total .0) (held .gives) ∙ ap (λ f. sum (length ws) (shares (length ws) (col ws) f c)) (needs-whole (S .needed));
+        leaves =
+            e
+            ∙ ap (λ n. sets had 0 (listed n (λ i. col had i + col more i))) (sym more-long)
+            ∙ ap (sets had 0)
+            (listed-same (length ws) (λ i. col had i + col more i) (after (length ws) (col ws) (col qs) c (col had))
+            (λ i l. ap (λ x. col had i + x) (more-at i l)));
+      }

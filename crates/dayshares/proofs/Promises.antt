@@ -7,25 +7,13 @@ use native.Mathlib.Omega.{arith}
 use Rattle.columns.specs.Column.{col}
 use Rattle.units.specs.declared.refusal.Check.{Check}
 use Rattle.dayshares.specs.Class.{full}
-use Rattle.dayshares.specs.Table.{
-  Table,
-  rows,
-  firm,
-  firm-given,
-  firm-total,
-  auction-held,
-  auction-offered,
-  auction-given,
-  auction-total,
-  lower-tier-held,
-  lower-tier-offered,
-  lower-tier-given,
-  lower-tier-total,
-  left,
-}
-use Rattle.dayshares.specs.Answer.{check}
+use Rattle.daytable.specs.Table.{Table, rows}
+use Rattle.dayshares.specs.Classes.{firm, firm-given, auction-held, auction-offered, auction-given, auction-total, lower-tier-held, lower-tier-offered, lower-tier-given, lower-tier-total, left}
+use Rattle.daytable.specs.Acceptance.{check}
 use Rattle.dayshares.specs.Promise.{Promise}
-use Rattle.dayshares.proofs.Accepting.{Accepting, accepting}
+use Rattle.daytable.proofs.Accepting.{Accepting, accepting}
+use Rattle.dayshares.specs.Leaves.{DayReady}
+use Rattle.dayshares.proofs.Accepting.{ready}
 use Rattle.dayshares.proofs.Classes.{class-le, class-fits, class-held, class-short, full-rows, short-row}
 use Rattle.dayshares.proofs.Firms.{firm-le, firm-fits, firm-short, firm-floor}
 
@@ -38,6 +26,9 @@ and-held : (a b : Bool) → a ≡ true → b ≡ true → cond a b false ≡ tru
 and-held a b e f = rw (e, f)
 
 module _ (T : Table) (firm-room auction-room lower-tier-room : ℕ) (A : Accepting T firm-room auction-room lower-tier-room) where
+  R : DayReady T firm-room auction-room lower-tier-room
+  R = ready T firm-room auction-room lower-tier-room A
+
   firm-full : auction-held T ≡ true → (j : ℕ) → j < rows T → firm-given T j ≡ col (T .firm-schedule) j
   firm-full e j l = le-antisymm (firm-le (firm T) j) (full-rows (rows T) (col (T .firm-schedule)) (firm-given T) e j l)
 
@@ -59,7 +50,7 @@ module _ (T : Table) (firm-room auction-room lower-tier-room : ℕ) (A : Accepti
   -- ---- a short row of each class, the class above it full or not
   short-firm : (i : ℕ) → i < rows T → firm-given T i < col (T .firm-schedule) i → left T < rows T
   short-firm i l short =
-      omega (arith, firm-short (firm T) (A .ready .firm .weights) (A .ready .firm .needs) (A .firm-weighted) i l short)
+      omega (arith, firm-short (firm T) (R .firm .weights) (R .firm .needs) (A .firm-served) i l short)
 
   firm-not-full : auction-held T ≡ false → left T < rows T
   firm-not-full e =
@@ -72,8 +63,8 @@ module _ (T : Table) (firm-room auction-room lower-tier-room : ℕ) (A : Accepti
       omega (
         arith,
         class-short (rows T) (col (T .auction-mdq)) (col (T .auction-schedule)) (auction-offered T)
-            (λ j k. A .ready .auction .weights j (omega (arith, A .ready .auction-same)))
-            (λ j k. A .ready .auction .needs j (omega (arith, A .ready .auction-same))) (A .auction-weighted) (auction-held T) e i l short,
+            (λ j k. R .auction .weights j (omega (arith, R .auction-same)))
+            (λ j k. R .auction .needs j (omega (arith, R .auction-same))) (A .auction-served) (auction-held T) e i l short,
         auction-fits,
         firm-fits (firm T),
       )
@@ -92,8 +83,8 @@ module _ (T : Table) (firm-room auction-room lower-tier-room : ℕ) (A : Accepti
       omega (
         arith,
         class-short (rows T) (col (T .lower-tier-schedule)) (col (T .lower-tier-schedule)) (lower-tier-offered T)
-            (λ j k. A .ready .lower-tier .weights j (omega (arith, A .ready .lower-tier-same)))
-            (λ j k. A .ready .lower-tier .needs j (omega (arith, A .ready .lower-tier-same))) (λ j k need. need) (lower-tier-held T) held i l
+            (λ j k. R .lower-tier .weights j (omega (arith, R .lower-tier-same)))
+            (λ j k. R .lower-tier .needs j (omega (arith, R .lower-tier-same))) (λ j k need. need) (lower-tier-held T) held i l
             short,
         lower-tier-fits,
         auction-fits,
@@ -105,6 +96,7 @@ pub promises : (T : Table) (firm-room auction-room lower-tier-room : ℕ)
     → check T firm-room auction-room lower-tier-room ≡ Check.Accepted → Promise T
 promises T firm-room auction-room lower-tier-room accepted =
     let A = accepting T firm-room auction-room lower-tier-room accepted in
+    let R = ready T firm-room auction-room lower-tier-room A in
     record {
       firm-within = λ i l. firm-le (firm T) i;
       auction-within = λ i l. auction-le T _ _ _ A i;
@@ -121,5 +113,5 @@ promises T firm-room auction-room lower-tier-room accepted =
       auction-short = short-auction T _ _ _ A (auction-held T) refl;
       lower-tier-short = short-lower-tier T _ _ _ A (auction-held T) _ refl refl;
       firm-least =
-          firm-floor (firm T) (A .ready .firm .weights) (A .ready .firm .needs) (λ i l. omega arith);
+          firm-floor (firm T) (R .firm .weights) (R .firm .needs) (λ i l. omega arith);
     }

@@ -15,156 +15,236 @@ use Rattle.sharing.proofs.Levels.{level-fits}
 use Rattle.sharing.proofs.Chains.{after-le, after-sum}
 use Rattle.rounds.specs.declared.Given.{Given}
 use Rattle.rounds.specs.Rows.{Ready}
-use Rattle.dayshares.specs.Firm.{Firm, firm-of, compressor-mdq, given-one, given-two, given-firm, left-two}
+use Rattle.dayshares.specs.Firm.{Firm, firm-of, level-one, compressor-mdq, given-one, given-two, given-firm, left-two}
 use Rattle.dayshares.specs.Leaves.{Held, NextReady, NextHeld, FirmReady, Split, FirmHeld}
 use Rattle.dayshares.proofs.Chaining.{Chained, chain-ready, chain-level, chain-total, chain-front}
 
-module _ (free-flow compressor : ℕ) (fs ms qs lent : List ℕ) (R : FirmReady free-flow compressor ms qs lent) (S : Split fs ms) where
-  abbrev F : Firm
-  F = firm-of free-flow compressor (col fs) ms qs
+-- ---- before the rounds
+pub record Start : Type 0 where
+  pub free-flow : ℕ
+  pub compressor : ℕ
+  pub fs : List ℕ
+  pub ms : List ℕ
+  pub qs : List ℕ
+  pub lent : List ℕ
+  pub ready : FirmReady free-flow compressor ms qs lent
+  pub split : Split fs ms
 
-  -- ---- round one
+abbrev F : Start → Firm
+F S = firm-of (S .free-flow) (S .compressor) (col (S .fs)) (S .ms) (S .qs)
+
+module _ (S : Start) where
+  open Start S using (free-flow, fs, ms, qs, lent, ready, split)
+
   pub one-ready : Ready free-flow fs qs (length lent)
   one-ready =
       record {
         rows =
             record {
-              same = S .same ∙ R .rows .same;
-              few = omega (arith, S .same, R .rows .few);
-              weights = λ i l. omega (arith, S .part i (omega (arith, S .same)), R .rows .weights i (omega (arith, S .same)));
-              needs = λ i l. R .rows .needs i (omega (arith, S .same));
+              same = split .same ∙ ready .rows .same;
+              few = omega (arith, split .same, ready .rows .few);
+              weights =
+                  λ i l.
+                  omega (arith, split .part i (omega (arith, split .same)), ready .rows .weights i (omega (arith, split .same)));
+              needs = λ i l. ready .rows .needs i (omega (arith, split .same));
             };
-        capacity = omega (arith, R .free-flow-small);
-        fits = omega (arith, S .same, R .fits);
+        capacity = omega (arith, ready .free-flow-small);
+        fits = omega (arith, split .same, ready .fits);
       }
 
-  -- ---- the Compressor MDQ as the code makes it
-  compressor-whole : col (listed (length ms) (compressor-mdq F)) ≡ compressor-mdq F
-  compressor-whole = col-whole (length ms) (compressor-mdq F) (λ i h. omega (arith, List·getD-eq-default ms 0 {n = i} h))
+  compressor-whole : col (listed (length ms) (compressor-mdq (F S))) ≡ compressor-mdq (F S)
+  compressor-whole = col-whole (length ms) (compressor-mdq (F S)) (λ i h. omega (arith, List·getD-eq-default ms 0 {n = i} h))
 
-  module _ (zeros made : List ℕ) (room : length ms ≤ length zeros)
-      (is : made ≡ sets zeros 0 (listed (length ms) (λ i. col ms i - col fs i))) where
-    made-is : take (length ms) made ≡ listed (length ms) (compressor-mdq F)
-    made-is = ap (take (length ms)) is ∙ take-sets (length ms) (compressor-mdq F) zeros room
+  one-le : (i : ℕ) → given-one (F S) i ≤ col qs i
+  unfolding given-one
+  one-le i = omega arith
 
-    pub compressor-long : length ms ≡ length (take (length ms) made)
-    compressor-long = sym (ap length made-is ∙ length-listed (length ms) (compressor-mdq F))
+  two-le : (i : ℕ) → given-two (F S) i ≤ col qs i
+  unfolding given-two
+  two-le i = after-le _ _ _ _ _ i (one-le i)
 
-    module _ (g₁ : Given) (l₁ : List ℕ) (H₁ : Held free-flow fs qs lent g₁ l₁) where
-      front-one : l₁ ≡ sets lent 0 (listed (length ms) (given-one F))
-      unfolding given-one
-      front-one = rw (S .same) at (H₁ .leaves)
+-- ---- the Compressor MDQ is made
+pub record Made : Type 0 where
+  pub start : Start
+  pub zeros : List ℕ
+  pub made : List ℕ
+  pub room : length (start .ms) ≤ length zeros
+  pub is : made ≡ sets zeros 0 (listed (length (start .ms)) (λ i. col (start .ms) i - col (start .fs) i))
 
-      total-one : g₁ .total .0 ≡ sum (length ms) (given-one F)
-      unfolding given-one
-      total-one = let e = rw (S .same) at (H₁ .gives) in ap (λ g. g .total .0) e
+module _ (S : Made) where
+  open Made S using (zeros, made, room, is)
+  open Start (S .start) using (ms)
 
-      one-le : (i : ℕ) → given-one F i ≤ col qs i
-      unfolding given-one
-      one-le i = omega arith
+  made-is : take (length ms) made ≡ listed (length ms) (compressor-mdq (F (S .start)))
+  made-is = ap (take (length ms)) is ∙ take-sets (length ms) (compressor-mdq (F (S .start))) zeros room
 
-      one-fits : g₁ .total .0 ≤ free-flow
-      unfolding given-one
-      one-fits = omega (arith, total-one, level-fits (length ms) (col fs) (col qs) free-flow)
+  pub compressor-long : length ms ≡ length (take (length ms) made)
+  compressor-long = sym (ap length made-is ∙ length-listed (length ms) (compressor-mdq (F (S .start))))
 
-      C₁ : Chained (length ms) (compressor-mdq F) (given-one F) (take (length ms) made) qs lent l₁
-      C₁ =
-          record {
-            weights-long = sym compressor-long;
-            needs-long = sym (R .rows .same);
-            fits = R .fits;
-            weights = ap col made-is ∙ compressor-whole;
-            front = front-one;
-          }
+-- ---- round one is held
+pub record OneHeld : Type 0 where
+  pub made : Made
+  pub given : Given
+  pub after : List ℕ
+  pub held : Held (made .start .free-flow) (made .start .fs) (made .start .qs) (made .start .lent) given after
 
-      pub two-ready : NextReady compressor (take (length ms) made) qs l₁
-      two-ready =
-          chain-ready _ _ _ _ _ _ _ C₁ compressor (R .rows .few) (omega (arith, R .compressor-small))
-          (λ i l. omega (arith, R .rows .weights i l)) (R .rows .needs) (λ i l. one-le i)
+module _ (S : OneHeld) where
+  open OneHeld S using (given, after, held)
+  open Start (S .made .start) using (free-flow, compressor, fs, ms, qs, lent, ready, split)
 
-      module _ (g₂ : Given) (l₂ : List ℕ) (H₂ : NextHeld compressor (take (length ms) made) qs l₁ g₂ l₂) where
-        two-fits : g₂ .total .0 ≤ compressor
-        two-fits =
+  round-one : given ≡ record {
+    level = level-one (F (S .made .start));
+    total = record { 0 = sum (length ms) (given-one (F (S .made .start))) };
+  }
+  unfolding given-one
+  round-one = rw (split .same) at (held .gives)
+
+  one-total : given .total .0 ≡ sum (length ms) (given-one (F (S .made .start)))
+  one-total = ap (λ g. g .total .0) round-one
+
+  one-fits : given .total .0 ≤ free-flow
+  unfolding given-one
+  one-fits = omega (arith, one-total, level-fits (length ms) (col fs) (col qs) free-flow)
+
+  chained-one : Chained (length ms) (compressor-mdq (F (S .made .start))) (given-one (F (S .made .start)))
+      (take (length ms) (S .made .made)) qs lent after
+  unfolding given-one
+  chained-one =
+      record {
+        weights-long = sym (compressor-long (S .made));
+        needs-long = sym (ready .rows .same);
+        fits = ready .fits;
+        weights = ap col (made-is (S .made)) ∙ compressor-whole (S .made .start);
+        front = rw (split .same) at (held .leaves);
+      }
+
+  pub two-ready : NextReady compressor (take (length ms) (S .made .made)) qs after
+  two-ready =
+      chain-ready _ _ _ _ _ _ _ chained-one compressor (ready .rows .few) (omega (arith, ready .compressor-small))
+      (λ i l. omega (arith, ready .rows .weights i l)) (ready .rows .needs) (λ i l. one-le (S .made .start) i)
+
+-- ---- round two is held
+pub record TwoHeld : Type 0 where
+  pub one : OneHeld
+  pub given : Given
+  pub after : List ℕ
+  pub held :
+      NextHeld (one .made .start .compressor) (take (length (one .made .start .ms)) (one .made .made)) (one .made .start .qs) (one .after)
+      given after
+
+module _ (S : TwoHeld) where
+  open TwoHeld S using (given, after, held)
+  open Start (S .one .made .start) using (free-flow, compressor, ms, qs, lent, ready)
+
+  abbrev spent : ℕ
+  spent = S .one .given .total .0 + given .total .0
+
+  two-total : given .total .0
+      ≡ sum (length ms)
+      (shares (length ms) (compressor-mdq (F (S .one .made .start))) (unmet (col qs) (given-one (F (S .one .made .start)))) compressor)
+  two-total = chain-total _ _ _ _ _ _ _ (chained-one (S .one)) _ _ _ held
+
+  -- what the first two rounds give is within both capacities
+  pub spent-fits : spent ≤ free-flow + compressor
+  spent-fits =
+      omega (
+        arith,
+        one-fits (S .one),
+        two-total,
+        level-fits (length ms) (compressor-mdq (F (S .one .made .start))) (unmet (col qs) (given-one (F (S .one .made .start)))) compressor,
+      )
+
+  pub spent-small : spent ≤ most-capacity
+  spent-small = omega (arith, spent-fits, ready .free-flow-small, ready .compressor-small)
+
+  spent-is : sum (length ms) (given-two (F (S .one .made .start))) ≡ spent
+  unfolding given-two
+  spent-is =
+      omega (
+        arith,
+        after-sum (length ms) (compressor-mdq (F (S .one .made .start))) (col qs) compressor (given-one (F (S .one .made .start))),
+        one-total (S .one),
+        two-total,
+      )
+
+  chained-two : Chained (length ms) (col ms) (given-two (F (S .one .made .start))) ms qs lent after
+  unfolding given-two
+  chained-two =
+      record {
+        weights-long = refl;
+        needs-long = sym (ready .rows .same);
+        fits = ready .fits;
+        weights = refl;
+        front = chain-front _ _ _ _ _ _ _ (chained-one (S .one)) _ _ _ held;
+      }
+
+  pub three-ready : NextReady (free-flow + compressor - spent) ms qs after
+  three-ready =
+      chain-ready _ _ _ _ _ _ _ chained-two (free-flow + compressor - spent) (ready .rows .few)
+      (omega (arith, ready .free-flow-small, ready .compressor-small)) (ready .rows .weights) (ready .rows .needs)
+      (λ i l. two-le (S .one .made .start) i)
+
+-- ---- round three is held
+pub record ThreeHeld : Type 0 where
+  pub two : TwoHeld
+  pub given : Given
+  pub after : List ℕ
+  pub held :
+      NextHeld
+      (two .one .made .start .free-flow + two .one .made .start .compressor - (two .one .given .total .0 + two .given .total .0))
+      (two .one .made .start .ms) (two .one .made .start .qs) (two .after) given after
+
+module _ (S : ThreeHeld) where
+  open ThreeHeld S using (given, after, held)
+  open Start (S .two .one .made .start) using (free-flow, compressor, ms, qs, lent, ready)
+
+  abbrev G : Firm
+  G = F (S .two .one .made .start)
+
+  left-is : free-flow + compressor - spent (S .two) ≡ left-two G
+  left-is = ap (λ x. free-flow + compressor - x) (sym (spent-is (S .two)))
+
+  held-left : NextHeld (left-two G) ms qs (S .two .after) given after
+  held-left = rw left-is at held
+
+  three-total : given .total .0
+      ≡ sum (length ms)
+      (shares (length ms) (col ms) (unmet (col qs) (given-two G)) (left-two G))
+  three-total = chain-total _ _ _ _ _ _ _ (chained-two (S .two)) _ _ _ held-left
+
+  pub all-small : spent (S .two) + given .total .0 ≤ most-capacity
+  all-small =
+      omega (
+        arith,
+        three-total,
+        level-fits (length ms) (col ms) (unmet (col qs) (given-two G)) (left-two G),
+        left-is,
+        spent-fits (S .two),
+        ready .free-flow-small,
+        ready .compressor-small,
+      )
+
+  pub firm-held :
+      FirmHeld G lent
+      (record {
+        one = S .two .one .given .level;
+        two = S .two .given .level;
+        three = given .level;
+        total = spent (S .two) + given .total .0;
+      })
+      after
+  unfolding given-firm
+  firm-held =
+      record {
+        one = ap (λ g. g .level) (round-one (S .two .one));
+        two = chain-level _ _ _ _ _ _ _ (chained-one (S .two .one)) _ _ _ (S .two .held);
+        three = chain-level _ _ _ _ _ _ _ (chained-two (S .two)) _ _ _ held-left;
+        total =
             omega (
               arith,
-              chain-total _ _ _ _ _ _ _ C₁ _ _ _ H₂,
-              level-fits (length ms) (compressor-mdq F) (unmet (col qs) (given-one F)) compressor,
-            )
-
-        -- what the first two rounds give is within both capacities
-        pub both-fit : g₁ .total .0 + g₂ .total .0 ≤ free-flow + compressor
-        both-fit = omega (arith, one-fits, two-fits)
-
-        pub both-small : g₁ .total .0 + g₂ .total .0 ≤ most-capacity
-        both-small = omega (arith, both-fit, R .free-flow-small, R .compressor-small)
-
-        two-le : (i : ℕ) → given-two F i ≤ col qs i
-        unfolding given-two
-        two-le i = after-le (length ms) (compressor-mdq F) (col qs) compressor (given-one F) i (one-le i)
-
-        total-two : sum (length ms) (given-two F) ≡ g₁ .total .0 + g₂ .total .0
-        unfolding given-two
-        total-two =
-            omega (
-              arith,
-              after-sum (length ms) (compressor-mdq F) (col qs) compressor (given-one F),
-              total-one,
-              chain-total _ _ _ _ _ _ _ C₁ _ _ _ H₂,
-            )
-
-        C₂ : Chained (length ms) (col ms) (given-two F) ms qs lent l₂
-        unfolding given-two
-        C₂ =
-            record {
-              weights-long = refl;
-              needs-long = sym (R .rows .same);
-              fits = R .fits;
-              weights = refl;
-              front = chain-front _ _ _ _ _ _ _ C₁ _ _ _ H₂;
-            }
-
-        pub three-ready : NextReady (free-flow + compressor - (g₁ .total .0 + g₂ .total .0)) ms qs l₂
-        three-ready =
-            chain-ready _ _ _ _ _ _ _ C₂ (free-flow + compressor - (g₁ .total .0 + g₂ .total .0)) (R .rows .few)
-            (omega (arith, R .free-flow-small, R .compressor-small)) (R .rows .weights) (R .rows .needs) (λ i l. two-le i)
-
-        module _ (g₃ : Given) (l₃ : List ℕ) (H₃ : NextHeld (free-flow + compressor - (g₁ .total .0 + g₂ .total .0)) ms qs l₂ g₃ l₃) where
-          left-is : free-flow + compressor - (g₁ .total .0 + g₂ .total .0) ≡ left-two F
-          left-is = ap (λ x. free-flow + compressor - x) (sym total-two)
-
-          H₃′ : NextHeld (left-two F) ms qs l₂ g₃ l₃
-          H₃′ = rw left-is at H₃
-
-          three-total : g₃ .total .0 ≡ sum (length ms) (shares (length ms) (col ms) (unmet (col qs) (given-two F)) (left-two F))
-          three-total = chain-total _ _ _ _ _ _ _ C₂ _ _ _ H₃′
-
-          pub all-small : g₁ .total .0 + g₂ .total .0 + g₃ .total .0 ≤ most-capacity
-          all-small =
-              omega (
-                arith,
-                three-total,
-                level-fits (length ms) (col ms) (unmet (col qs) (given-two F)) (left-two F),
-                left-is,
-                both-fit,
-                R .free-flow-small,
-                R .compressor-small,
-              )
-
-          pub firm-held :
-              FirmHeld (firm-of free-flow compressor (col fs) ms qs) lent
-              (record {
-                one = g₁ .level;
-                two = g₂ .level;
-                three = g₃ .level;
-                total = g₁ .total .0 + g₂ .total .0 + g₃ .total .0;
-              })
-              l₃
-          unfolding given-firm
-          firm-held =
-              record {
-                one = let e = rw (S .same) at (H₁ .gives) in ap (λ g. g .level) e;
-                two = chain-level _ _ _ _ _ _ _ C₁ _ _ _ H₂;
-                three = chain-level _ _ _ _ _ _ _ C₂ _ _ _ H₃′;
-                total = omega (arith, after-sum (length ms) (col ms) (col qs) (left-two F) (given-two F), total-two, three-total);
-                leaves = chain-front _ _ _ _ _ _ _ C₂ _ _ _ H₃′;
-              }
+              after-sum (length ms) (col ms) (col qs) (left-two G) (given-two G),
+              spent-is (S .two),
+              three-total,
+            );
+        leaves = chain-front _ _ _ _ _ _ _ (chained-two (S .two)) _ _ _ held-left;
+      }

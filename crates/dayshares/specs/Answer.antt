@@ -1,22 +1,18 @@
 -- What `share_day` answers, and what it leaves in the three lent lists.
 use mathlib.Core.Path.{_≡_}
-use mathlib.Core.Bool.{Bool, false, cond}
 use mathlib.Core.List.{List}
 use Prim.Native.Nat.{ℕ}
-use lib.Dec.{leb, ltb, eqb}
 use lib.ListN.{length}
 use lib.Seq.{sets}
-use Rattle.columns.specs.Column.{col, listed}
-use Rattle.columns.specs.First.{first}
+use Rattle.columns.specs.Column.{listed}
 use Rattle.units.specs.declared.refusal.Check.{Check}
-use Rattle.units.specs.Bound.{most-gigajoules, most-rows}
-use Rattle.units.specs.Refusals.{_then_, keep, clear, within, accepted-or}
+use Rattle.units.specs.Refusals.{accepted-or}
+use Rattle.daytable.specs.Table.{Table, rows}
+use Rattle.daytable.specs.Acceptance.{check}
 use Rattle.dayshares.specs.declared.Shares.{Shares}
 use Rattle.dayshares.specs.declared.Day.{Day}
 use Rattle.dayshares.specs.Firm.{level-one, level-two, level-three}
-use Rattle.dayshares.specs.Table.{
-  Table,
-  rows,
+use Rattle.dayshares.specs.Classes.{
   firm,
   firm-given,
   firm-total,
@@ -28,46 +24,6 @@ use Rattle.dayshares.specs.Table.{
   lower-tier-total,
   left,
 }
-
--- 9: the five lists are as long as one another
-unfoldable pub lengths : Table → Check
-lengths T =
-    Check.Accepted
-    then keep (eqb (rows T) (length (T .auction-mdq))) 9
-    then keep (eqb (rows T) (length (T .firm-schedule))) 9
-    then keep (eqb (rows T) (length (T .auction-schedule))) 9
-    then keep (eqb (rows T) (length (T .lower-tier-schedule))) 9
-
--- 3: the capacities, the count, then each list
-unfoldable pub figures : Table → Check
-figures T =
-    Check.Accepted
-    then keep (leb (T .free-flow) most-gigajoules) 3
-    then keep (leb (T .compressor) most-gigajoules) 3
-    then keep (leb (rows T) most-rows) 3
-    then within most-gigajoules (T .firm-mdq)
-    then within most-gigajoules (T .auction-mdq)
-    then within most-gigajoules (T .firm-schedule)
-    then within most-gigajoules (T .auction-schedule)
-    then within most-gigajoules (T .lower-tier-schedule)
-
--- a schedule above zero with that MDQ zero
-abbrev pub idle : ℕ → ℕ → Bool
-idle mdq schedule = cond (eqb mdq 0) (ltb 0 schedule) false
-
-abbrev pub first-idle : List ℕ → List ℕ → ℕ
-first-idle mdqs schedules = first (length mdqs) (λ i. idle (col mdqs i) (col schedules i))
-
--- 4: firm rows, then auction rows; 7: the three lent lists
-unfoldable pub check : Table → ℕ → ℕ → ℕ → Check
-check T firm-room auction-room lower-tier-room =
-    lengths T
-    then figures T
-    then clear (rows T) (first-idle (T .firm-mdq) (T .firm-schedule)) 4
-    then clear (rows T) (first-idle (T .auction-mdq) (T .auction-schedule)) 4
-    then keep (leb (rows T) firm-room) 7
-    then keep (leb (rows T) auction-room) 7
-    then keep (leb (rows T) lower-tier-room) 7
 
 -- the five levels, the total of each class, and LEFT
 abbrev pub shares : Table → Shares

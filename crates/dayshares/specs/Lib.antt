@@ -1,6 +1,6 @@
 pub mod Firm
 pub mod Class
-pub mod Table
+pub mod Classes
 pub mod Answer
 pub mod Leaves
 pub mod Promise

@@ -1,7 +1,6 @@
 // A day's shares, opened: firm in three rounds, then auction, then lower tier.
 mod accepted;
 mod class;
-mod examine;
 mod firm;
 mod lists;
 mod round;
@@ -70,9 +69,9 @@ pub fn share_day(
         r
         (now (firm .exit)) (now (auction .exit)) (now («lower_tier» .exit)) ⌝ }
 {
-    let found = examine::examine(
-        free_flow.0,
-        compressor.0,
+    let found = daytable::examine_day(
+        free_flow,
+        compressor,
         firm_mdq,
         auction_mdq,
         firm_schedule,

@@ -7,16 +7,6 @@ ghost use lib.Seq.{sets};
 ghost use Rattle.columns.specs.Column.{col, listed};
 ghost use Rattle.dayshares.specs.Firm.{three-quarters};
 
-// The figure of a row, 0 past the list.
-pub fn figure(figures: &[u32], row: usize) -> u32
-    ensures { λ r. ⌜ r ≡ col (now (figures .entry)) row ⌝ }
-{
-    if figures.len() <= row {
-        return 0;
-    }
-    figures[row]
-}
-
 // Writes each row's Free Flow MDQ.
 pub fn free_flow_list(mdqs: &[u32], list: &mut [u32])
     requires { ⌜ length (now mdqs) ≤ length (now list) ⌝ }
@@ -34,7 +24,8 @@ pub fn free_flow_list(mdqs: &[u32], list: &mut [u32])
 pub fn rest_list(wholes: &[u32], parts: &[u32], list: &mut [u32])
     requires { ⌜ (length (now wholes) ≤ length (now parts)) × (length (now wholes) ≤ length (now list)) ⌝ }
     ensures { λ _. ⌜ now (list .exit)
-        ≡ sets (now (list .entry)) 0 (listed (length (now (wholes .entry))) (λ i. col (now (wholes .entry)) i - col (now (parts .entry)) i)) ⌝ }
+        ≡ sets (now (list .entry)) 0
+        (listed (length (now (wholes .entry))) (λ i. col (now (wholes .entry)) i - col (now (parts .entry)) i)) ⌝ }
 {
     let mut row = 0;
     while row < wholes.len() {

@@ -1,15 +1,56 @@
 -- Class after class, the lists hold what the columns say.
 use borrow.Author.Needs.{needs}
 use Rattle.dayshares.proofs.Days.{
+  FirmStage,
   firm-spent,
+  AuctionStage,
   auction-spent,
   auction-room,
   lower-tier-ready,
+  LowerTierStage,
   lower-tier-spent,
   day-shared,
 }
 use Rattle.dayshares.proofs.accepted.share_accepted.Statement.{statement}
 use Rattle.dayshares.proofs.accepted.share_accepted.Tie as tie
+
+abbrev firm-stage : tie.After-share-firm → FirmStage
+firm-stage c =
+    let start = c .before .before .before .before .before .before .before .before .before .before in
+    record {
+      T = _;
+      firm-lent = start .args .firm .now;
+      auction-lent = start .args .auction .now;
+      lower-tier-lent = start .args .lower-tier .now;
+      ready = start .pre;
+      given = _;
+      after = _;
+      held = c .share-firm .ensures;
+    }
+
+abbrev auction-stage : tie.After-offer → AuctionStage
+auction-stage c =
+    record {
+      firm = firm-stage (c .before .before .before .before .before .before .before);
+      open-to = _;
+      firm-full = c .before .before .is-full .ensures;
+      given = _;
+      after = _;
+      offered = c .offer .ensures;
+    }
+
+abbrev lower-tier-stage : tie.After-offer2 → LowerTierStage
+lower-tier-stage c =
+    record {
+      auction = auction-stage (c .before .before .before .before .before .before .before .before);
+      full-too = _;
+      auction-full = c .before .before .before .is-full2 .ensures;
+      open-to = _;
+      both-full = c .before .before .both .ensures;
+      given = _;
+      after = _;
+      offered = c .offer2 .ensures;
+    }
 
 share-firm-requires : tie.Need-share-firm-requires
 share-firm-requires c κs = search needs
@@ -18,10 +59,7 @@ add-offered : tie.Need-add-offered
 add-offered c = search needs
 
 sub-offered : tie.Need-sub-offered
-sub-offered c =
-    let firm = c .before .before .before in
-    let start = firm .before .before .before .before .before .before .before .before .before .before in
-    firm-spent _ (start .args .firm .now) (start .args .auction .now) (start .args .lower-tier .now) (start .pre) _ _ (firm .share-firm .ensures)
+sub-offered c = firm-spent (firm-stage (c .before .before .before))
 
 is-full-requires : tie.Need-is-full-requires
 is-full-requires c κs = search needs
@@ -30,43 +68,19 @@ offer-requires : tie.Need-offer-requires
 offer-requires c κs = search needs
 
 sub-rest : tie.Need-sub-rest
-sub-rest c =
-    let auction = c .before .before .before in
-    let full = auction .before .before in
-    let firm = full .before .before .before .before .before in
-    let start = firm .before .before .before .before .before .before .before .before .before .before in
-    auction-spent _ (start .args .firm .now) (start .args .auction .now) (start .args .lower-tier .now) (start .pre) _ _ (firm .share-firm .ensures) _ (full .is-full .ensures) _ _ (auction .offer .ensures)
+sub-rest c = auction-spent (auction-stage (c .before .before .before))
 
 is-full-requires-2 : tie.Need-is-full-requires-2
-is-full-requires-2 c κs =
-    let auction = c .before .before .before .before in
-    let full = auction .before .before in
-    let firm = full .before .before .before .before .before in
-    let start = firm .before .before .before .before .before .before .before .before .before .before in
-    auction-room _ (start .args .firm .now) (start .args .auction .now) (start .args .lower-tier .now) (start .pre) _ _ (firm .share-firm .ensures) _ (full .is-full .ensures) _ _ (auction .offer .ensures)
+is-full-requires-2 c κs = auction-room (auction-stage (c .before .before .before .before))
 
 both-requires : tie.Need-both-requires
 both-requires c κs = search needs
 
 offer-requires-2 : tie.Need-offer-requires-2
-offer-requires-2 c κs =
-    let auction = c .before .before .before .before .before .before .before in
-    let full = auction .before .before in
-    let firm = full .before .before .before .before .before in
-    let start = firm .before .before .before .before .before .before .before .before .before .before in
-    lower-tier-ready _ (start .args .firm .now) (start .args .auction .now) (start .args .lower-tier .now) (start .pre) _ _ (firm .share-firm .ensures) _ (full .is-full .ensures) _ _ (auction .offer .ensures)
+offer-requires-2 c κs = lower-tier-ready (auction-stage (c .before .before .before .before .before .before .before))
 
 sub-t21 : tie.Need-sub-t21
-sub-t21 c =
-    let lower = c .before .before .before in
-    let both = lower .before .before in
-    let emptied = both .before in
-    let auction = emptied .before .before .before .before .before in
-    let full = auction .before .before in
-    let firm = full .before .before .before .before .before in
-    let start = firm .before .before .before .before .before .before .before .before .before .before in
-    lower-tier-spent _ (start .args .firm .now) (start .args .auction .now) (start .args .lower-tier .now) (start .pre) _ _ (firm .share-firm .ensures) _ (full .is-full .ensures) _ _ (auction .offer .ensures)
-    _ (emptied .is-full2 .ensures) _ (both .both .ensures) _ _ (lower .offer2 .ensures)
+sub-t21 c = lower-tier-spent (lower-tier-stage (c .before .before .before))
 
 same-length : tie.Need-same-length
 same-length c = search needs
@@ -78,16 +92,7 @@ same-length-3 : tie.Need-same-length-3
 same-length-3 c = search needs
 
 returns : tie.Need-returns
-returns c =
-    let lower = c .before .before .before in
-    let both = lower .before .before in
-    let emptied = both .before in
-    let auction = emptied .before .before .before .before .before in
-    let full = auction .before .before in
-    let firm = full .before .before .before .before .before in
-    let start = firm .before .before .before .before .before .before .before .before .before .before in
-    day-shared _ (start .args .firm .now) (start .args .auction .now) (start .args .lower-tier .now) (start .pre) _ _ (firm .share-firm .ensures) _ (full .is-full .ensures) _ _ (auction .offer .ensures)
-    _ (emptied .is-full2 .ensures) _ (both .both .ensures) _ _ (lower .offer2 .ensures)
+returns c = day-shared (lower-tier-stage (c .before .before .before))
 
 pub share-accepted-spec : {M : Type 1} → statement M
 share-accepted-spec =

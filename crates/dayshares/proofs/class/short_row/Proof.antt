@@ -32,7 +32,8 @@ shared-slice-read-if1-2 c = search needs
 
 returns : tie.Need-returns Inv-loop μ-loop
 returns c =
-    let turn = c .before .before .before in stops _ _ _ (turn .before .loop .inv) (turn .loop-test .taken) (lt-ltb _ _ (c .if1 .taken))
+    let turn = c .before .before .before in
+    stops _ _ _ (turn .before .loop .inv) (turn .loop-test .taken) (lt-ltb _ _ (c .if1 .taken))
 
 add-row : tie.Need-add-row Inv-loop μ-loop
 add-row c = search needs
@@ -42,7 +43,8 @@ loop-less c = search needs
 
 loop-again : tie.Need-loop-again Inv-loop μ-loop
 loop-again c =
-    let turn = c .before .before .before in searched-more _ _ _ (turn .before .loop .inv) (turn .loop-test .taken) (le-ltb _ _ (c .if1 .left))
+    let turn = c .before .before .before in
+    searched-more _ _ _ (turn .before .loop .inv) (turn .loop-test .taken) (le-ltb _ _ (c .if1 .left))
 
 returns-2 : tie.Need-returns-2 Inv-loop μ-loop
 returns-2 c = ends _ _ _ (c .before .loop .inv) (c .loop-test .left)

@@ -34,7 +34,8 @@ returns c =
     let held = c .before .before in
     let made = held .before .before .before .before in
     let start = made .before .before .before .before .before in
-    quartered (start .args .mdq .now) (replicate 64 0) _ (start .pre .rows .few) (made .free-flow-list .ensures) _ _ (start .args .schedule .now) _ _ _ (held .three-rounds .ensures)
+    quartered (start .args .mdq .now) (replicate 64 0) _ (start .pre .rows .few) (made .free-flow-list .ensures)
+    _ _ (start .args .schedule .now) _ _ _ (held .three-rounds .ensures)
 
 pub share-firm-spec : {M : Type 1} → statement M
 share-firm-spec =

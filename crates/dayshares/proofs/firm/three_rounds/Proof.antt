@@ -1,18 +1,51 @@
 -- Each round over the lists is a step of the chain over the columns.
 use native.Mathlib.Omega.{arith}
 use borrow.Author.Needs.{needs}
+use lib.ListN.{replicate}
 use Rattle.dayshares.proofs.ThreeRounds.{
+  Start,
   one-ready,
+  Made,
   compressor-long,
+  OneHeld,
   two-ready,
-  both-fit,
-  both-small,
+  TwoHeld,
+  spent-fits,
+  spent-small,
   three-ready,
+  ThreeHeld,
   all-small,
   firm-held,
 }
 use Rattle.dayshares.proofs.firm.three_rounds.Statement.{statement}
 use Rattle.dayshares.proofs.firm.three_rounds.Tie as tie
+
+abbrev start : tie.Start → Start
+start c =
+    record {
+      free-flow = c .args .free-flow;
+      compressor = c .args .compressor;
+      fs = c .args .free-flow-mdq .now;
+      ms = c .args .mdq .now;
+      qs = c .args .schedule .now;
+      lent = c .args .given .now;
+      ready = c .pre .0;
+      split = c .pre .1;
+    }
+
+abbrev made : tie.After-rest-list → Made
+made c =
+    let s = c .before .before .before .before .before .before in
+    record { start = start s; zeros = replicate 64 0; made = _; room = s .pre .0 .rows .few; is = c .rest-list .ensures }
+
+abbrev one : tie.After-hold → OneHeld
+one c = record { made = made (c .before .before .before); given = _; after = _; held = c .hold .ensures }
+
+abbrev two : tie.After-hold-next → TwoHeld
+two c = record { one = one (c .before .before .before .before .before); given = _; after = _; held = c .hold-next .ensures }
+
+abbrev three : tie.After-hold-next2 → ThreeHeld
+three c = record { two = two (c .before .before .before .before .before .before); given = _; after = _; held = c .hold-next2 .ensures }
 
 slice-aggregate-rest-list : tie.Need-slice-aggregate-rest-list
 slice-aggregate-rest-list c = search needs
@@ -21,73 +54,37 @@ rest-list-requires : tie.Need-rest-list-requires
 rest-list-requires c κs = search needs
 
 hold-requires : tie.Need-hold-requires
-hold-requires c κs =
-    let start = c .before .before .before .before .before .before .before .before in
-    one-ready _ _ _ _ _ _ (start .pre .0) (start .pre .1)
+hold-requires c κs = one-ready (start (c .before .before .before .before .before .before .before .before))
 
 array-share-prefix-compressor-mdq : tie.Need-array-share-prefix-compressor-mdq
 array-share-prefix-compressor-mdq c = search needs
 
 slice-aggregate-hold-next : tie.Need-slice-aggregate-hold-next
-slice-aggregate-hold-next c =
-    let made = c .before .before .before .before .before .before in
-    let start = made .before .before .before .before .before .before in
-    compressor-long _ _ _ _ _ _ (start .pre .0) (start .pre .1) _ _ (start .pre .0 .rows .few) (made .rest-list .ensures)
+slice-aggregate-hold-next c = compressor-long (made (c .before .before .before .before .before .before))
 
 hold-next-requires : tie.Need-hold-next-requires
-hold-next-requires c κs =
-    let first = c .before .before .before .before in
-    let made = first .before .before .before in
-    let start = made .before .before .before .before .before .before in
-    two-ready _ _ _ _ _ _ (start .pre .0) (start .pre .1) _ _ (start .pre .0 .rows .few) (made .rest-list .ensures) _ _ (first .hold .ensures)
+hold-next-requires c κs = two-ready (one (c .before .before .before .before))
 
 add-spent : tie.Need-add-spent
-add-spent c =
-    let second = c .before .before .before .before in
-    let first = second .before .before .before .before .before in
-    let made = first .before .before .before in
-    let start = made .before .before .before .before .before .before in
-    omega (arith, both-small _ _ _ _ _ _ (start .pre .0) (start .pre .1) _ _ (start .pre .0 .rows .few) (made .rest-list .ensures) _ _ (first .hold .ensures) _ _ (second .hold-next .ensures))
+add-spent c = omega (arith, spent-small (two (c .before .before .before .before)))
 
 add-hold-next : tie.Need-add-hold-next
 add-hold-next c = search needs
 
 sub-hold-next : tie.Need-sub-hold-next
-sub-hold-next c =
-    let second = c .before .before .before .before in
-    let first = second .before .before .before .before .before in
-    let made = first .before .before .before in
-    let start = made .before .before .before .before .before .before in
-    both-fit _ _ _ _ _ _ (start .pre .0) (start .pre .1) _ _ (start .pre .0 .rows .few) (made .rest-list .ensures) _ _ (first .hold .ensures) _ _ (second .hold-next .ensures)
+sub-hold-next c = spent-fits (two (c .before .before .before .before))
 
 hold-next-requires-2 : tie.Need-hold-next-requires-2
-hold-next-requires-2 c κs =
-    let second = c .before .before .before .before .before in
-    let first = second .before .before .before .before .before in
-    let made = first .before .before .before in
-    let start = made .before .before .before .before .before .before in
-    three-ready _ _ _ _ _ _ (start .pre .0) (start .pre .1) _ _ (start .pre .0 .rows .few) (made .rest-list .ensures) _ _ (first .hold .ensures) _ _ (second .hold-next .ensures)
+hold-next-requires-2 c κs = three-ready (two (c .before .before .before .before .before))
 
 add-t22 : tie.Need-add-t22
-add-t22 c =
-    let third = c .before .before .before in
-    let second = third .before .before .before .before .before .before in
-    let first = second .before .before .before .before .before in
-    let made = first .before .before .before in
-    let start = made .before .before .before .before .before .before in
-    omega (arith, all-small _ _ _ _ _ _ (start .pre .0) (start .pre .1) _ _ (start .pre .0 .rows .few) (made .rest-list .ensures) _ _ (first .hold .ensures) _ _ (second .hold-next .ensures) _ _ (third .hold-next2 .ensures))
+add-t22 c = omega (arith, all-small (three (c .before .before .before)))
 
 same-length : tie.Need-same-length
 same-length c = search needs
 
 returns : tie.Need-returns
-returns c =
-    let third = c .before .before .before in
-    let second = third .before .before .before .before .before .before in
-    let first = second .before .before .before .before .before in
-    let made = first .before .before .before in
-    let start = made .before .before .before .before .before .before in
-    firm-held _ _ _ _ _ _ (start .pre .0) (start .pre .1) _ _ (start .pre .0 .rows .few) (made .rest-list .ensures) _ _ (first .hold .ensures) _ _ (second .hold-next .ensures) _ _ (third .hold-next2 .ensures)
+returns c = firm-held (three (c .before .before .before))
 
 pub three-rounds-spec : {M : Type 1} → statement M
 three-rounds-spec =

@@ -34,7 +34,11 @@ add-list c =
     let turn = c .before .before in
     let start = turn .before .before in
     let now = turn .before .loop in
-    omega (arith, filling-past _ _ _ _ (now .inv .1) (omega arith) (now .row) (omega arith), start .pre .1 (turn .before .loop .row) (turn .loop-test .taken))
+    omega (
+      arith,
+      filling-past _ _ _ _ (now .inv .1) (omega arith) (now .row) (omega arith),
+      start .pre .1 (now .row) (turn .loop-test .taken),
+    )
 
 mul-list-3 : tie.Need-mul-list-3 Inv-loop μ-loop
 mul-list-3 c = search needs
@@ -49,11 +53,12 @@ loop-less : tie.Need-loop-less Inv-loop μ-loop
 loop-less c = search needs
 
 loop-again : tie.Need-loop-again Inv-loop μ-loop
-loop-again c = (
-  omega arith,
-  filling-next _ _ _ _ _ (c .before .before .before .loop .inv .1)
-      (omega (arith, filling-past _ _ _ _ (c .before .before .before .loop .inv .1) (omega arith) (c .before .before .before .loop .row) (omega arith))),
-)
+loop-again c =
+    let now = c .before .before .before .loop in (
+      omega arith,
+      filling-next _ _ _ _ _ (now .inv .1)
+          (omega (arith, filling-past _ _ _ _ (now .inv .1) (omega arith) (now .row) (omega arith))),
+    )
 
 same-length : tie.Need-same-length Inv-loop μ-loop
 same-length c = c .before .loop .inv .1 .long

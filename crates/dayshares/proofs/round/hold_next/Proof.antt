@@ -1,8 +1,29 @@
 -- The needs made are what is unmet, and adding the shares is the step of the chain.
 use borrow.Author.Needs.{needs}
-use Rattle.dayshares.proofs.Furthering.{needs-made, needs-long, next-ready, more-long, adds, next-held}
+use lib.ListN.{replicate}
+use Rattle.dayshares.proofs.Furthering.{Needed, needs-long, next-ready, Further, more-long, adds, next-held}
 use Rattle.dayshares.proofs.round.hold_next.Statement.{statement}
 use Rattle.dayshares.proofs.round.hold_next.Tie as tie
+
+abbrev needed : tie.After-rest-list → Needed
+needed c =
+    let start = c .before .before .before .before .before .before in
+    record {
+      c = start .args .capacity;
+      ws = start .args .weights .now;
+      qs = start .args .schedule .now;
+      had = start .args .given .now;
+      ready = start .pre;
+      lent = replicate 64 0;
+      made = _;
+      room = start .pre .rows .few;
+      is = c .rest-list .ensures;
+    }
+
+abbrev further : tie.After-hold → Further
+further c =
+    let n = needed (c .before .before .before .before) in
+    record { needed = n; lent = replicate 64 0; room = n .ready .rows .few; given = _; shared = _; held = c .hold .ensures }
 
 slice-aggregate-rest-list : tie.Need-slice-aggregate-rest-list
 slice-aggregate-rest-list c = search needs
@@ -14,44 +35,28 @@ array-share-prefix-needs : tie.Need-array-share-prefix-needs
 array-share-prefix-needs c = search needs
 
 slice-aggregate-hold : tie.Need-slice-aggregate-hold
-slice-aggregate-hold c =
-    let start = c .before .before .before .before .before .before .before .before in
-    needs-long _ _ _ _ (start .pre) _ (needs-made _ _ _ _ (start .pre) _ _ (start .pre .rows .few) (c .before .before .rest-list .ensures))
+slice-aggregate-hold c = needs-long (needed (c .before .before))
 
 slice-aggregate-hold-2 : tie.Need-slice-aggregate-hold-2
 slice-aggregate-hold-2 c = search needs
 
 hold-requires : tie.Need-hold-requires
-hold-requires c κs =
-    let start = c .before .before .before .before .before .before .before .before .before in
-    next-ready _ _ _ _ (start .pre) _ (needs-made _ _ _ _ (start .pre) _ _ (start .pre .rows .few) (c .before .before .before .rest-list .ensures)) 64 (start .pre .rows .few)
+hold-requires c κs = let n = needed (c .before .before .before) in next-ready n 64 (n .ready .rows .few)
 
 array-share-prefix-shares : tie.Need-array-share-prefix-shares
 array-share-prefix-shares c = search needs
 
 slice-aggregate-add-list : tie.Need-slice-aggregate-add-list
-slice-aggregate-add-list c =
-    let start = c .before .before .before .before .before .before .before .before .before .before .before .before in
-    let held = c .before .before in
-    let needs = needs-made _ _ _ _ (start .pre) _ _ (start .pre .rows .few) (held .before .before .before .before .rest-list .ensures) in
-    more-long _ _ _ _ (start .pre) _ needs _ _ _ (start .pre .rows .few) (held .hold .ensures)
+slice-aggregate-add-list c = more-long (further (c .before .before))
 
 add-list-requires : tie.Need-add-list-requires
-add-list-requires c κs =
-    let start = c .before .before .before .before .before .before .before .before .before .before .before .before .before in
-    let held = c .before .before .before in
-    let needs = needs-made _ _ _ _ (start .pre) _ _ (start .pre .rows .few) (held .before .before .before .before .rest-list .ensures) in
-    adds _ _ _ _ (start .pre) _ needs _ _ _ (start .pre .rows .few) (held .hold .ensures)
+add-list-requires c κs = adds (further (c .before .before .before))
 
 same-length : tie.Need-same-length
 same-length c = search needs
 
 returns : tie.Need-returns
-returns c =
-    let start = c .before .before .before .before .before .before .before .before .before .before .before .before .before .before .before .before in
-    let held = c .before .before .before .before .before .before in
-    let needs = needs-made _ _ _ _ (start .pre) _ _ (start .pre .rows .few) (held .before .before .before .before .rest-list .ensures) in
-    next-held _ _ _ _ (start .pre) _ needs _ _ _ (start .pre .rows .few) (held .hold .ensures) _ (c .before .before .add-list .ensures)
+returns c = next-held (further (c .before .before .before .before .before .before)) _ (c .before .before .add-list .ensures)
 
 pub hold-next-spec : {M : Type 1} → statement M
 hold-next-spec =

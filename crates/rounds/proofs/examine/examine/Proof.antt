@@ -24,7 +24,17 @@ keep-requires-4 c κs = search needs
 
 returns : tie.Need-returns
 unfolding check
-returns c = cc
+returns c =
+    let weights = c .before .before in
+    let count = weights .before in
+    rw (
+      c .keep4 .ensures,
+      c .before .gigajoules-within2 .ensures,
+      weights .gigajoules-within .ensures,
+      count .keep3 .ensures,
+      count .before .keep2 .ensures,
+      count .before .before .before .keep .ensures,
+    )
 
 pub examine-spec : {M : Type 1} → statement M
 examine-spec =

@@ -31,11 +31,13 @@ div-result c = search needs
 
 add-result : tie.Need-add-result
 add-result c =
-    let start = c .before .before .before .before .before .before .before .before .before in omega (arith, div-le-self 64_000_000 (start .args .pass .short))
+    let start = c .before .before .before .before .before .before .before .before .before in
+    omega (arith, div-le-self 64_000_000 (start .args .pass .short))
 
 add-result-2 : tie.Need-add-result-2
 add-result-2 c =
-    let start = c .before .before .before .before .before .before .before .before .before in omega (arith, div-le-self 64_000_000 (start .args .pass .short))
+    let start = c .before .before .before .before .before .before .before .before .before in
+    omega (arith, div-le-self 64_000_000 (start .args .pass .short))
 
 returns-5 : tie.Need-returns-5
 returns-5 c = search needs

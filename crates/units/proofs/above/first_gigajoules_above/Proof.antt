@@ -25,7 +25,9 @@ shared-slice-read-if1 : tie.Need-shared-slice-read-if1 Inv-loop μ-loop
 shared-slice-read-if1 c = search needs
 
 returns : tie.Need-returns Inv-loop μ-loop
-returns c = stops _ _ _ (c .before .before .before .before .loop .inv) (c .before .before .before .loop-test .taken) (lt-ltb _ _ (c .if1 .taken))
+returns c =
+    let turn = c .before .before .before in
+    stops _ _ _ (turn .before .loop .inv) (turn .loop-test .taken) (lt-ltb _ _ (c .if1 .taken))
 
 add-row : tie.Need-add-row Inv-loop μ-loop
 add-row c = search needs
@@ -34,7 +36,9 @@ loop-less : tie.Need-loop-less Inv-loop μ-loop
 loop-less c = search needs
 
 loop-again : tie.Need-loop-again Inv-loop μ-loop
-loop-again c = searched-more _ _ _ (c .before .before .before .before .loop .inv) (c .before .before .before .loop-test .taken) (le-ltb _ _ (c .if1 .left))
+loop-again c =
+    let turn = c .before .before .before in
+    searched-more _ _ _ (turn .before .loop .inv) (turn .loop-test .taken) (le-ltb _ _ (c .if1 .left))
 
 returns-2 : tie.Need-returns-2 Inv-loop μ-loop
 returns-2 c = ends _ _ _ (c .before .loop .inv) (c .loop-test .left)

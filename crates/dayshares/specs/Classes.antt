@@ -1,25 +1,11 @@
--- 01, "A day's shares": a day's table, and what its rows are given, class after class.
+-- 01, "A day's shares": what a table's rows are given, class after class.
 use mathlib.Core.Bool.{Bool, false, cond}
-use mathlib.Core.List.{List}
 use Prim.Native.Nat.{ℕ, _+_, _-_}
-use lib.ListN.{length}
 use Rattle.columns.specs.Column.{col}
 use Rattle.columns.specs.Sum.{sum}
+use Rattle.daytable.specs.Table.{Table, rows}
 use Rattle.dayshares.specs.Firm.{Firm, firm-of, three-quarters, given-firm}
 use Rattle.dayshares.specs.Class.{full, class-level, class-given}
-
--- both capacities, and the lists in the order of the day file's tag 2
-pub record Table : Type 0 where
-  pub free-flow : ℕ
-  pub compressor : ℕ
-  pub firm-mdq : List ℕ
-  pub auction-mdq : List ℕ
-  pub firm-schedule : List ℕ
-  pub auction-schedule : List ℕ
-  pub lower-tier-schedule : List ℕ
-
-abbrev pub rows : Table → ℕ
-rows T = length (T .firm-mdq)
 
 -- firm first; a row's Free Flow MDQ is three quarters of its firm MDQ
 abbrev pub firm : Table → Firm

@@ -1,14 +1,16 @@
-// The tests of a day's table, in 01's order.
-use crate::lists::figure;
+// A day's table and its tests, opened.
 use units::Check;
+use units::Gigajoules;
 use units::MOST_GIGAJOULES;
 use units::MOST_ROWS;
 ghost use mathlib.Core.Path.{_≡_};
-ghost use Rattle.dayshares.specs.Answer.{figures, idle, first-idle, check};
+ghost use Rattle.columns.specs.Column.{col};
+ghost use Rattle.daytable.specs.Acceptance.{figures, idle, first-idle, check};
 
-pub fn examine(
-    free_flow: u32,
-    compressor: u32,
+// The first of 01's tests that a day's table fails, with room for so many shares of each class.
+pub fn examine_day(
+    free_flow: Gigajoules,
+    compressor: Gigajoules,
     firm_mdq: &[u32],
     auction_mdq: &[u32],
     firm_schedule: &[u32],
@@ -20,8 +22,8 @@ pub fn examine(
 ) -> Check
     ensures { λ r. ⌜ r ≡ check
         (record {
-          free-flow = «free_flow»;
-          compressor = compressor;
+          free-flow = «free_flow» .0;
+          compressor = compressor .0;
           firm-mdq = now («firm_mdq» .entry);
           auction-mdq = now («auction_mdq» .entry);
           firm-schedule = now («firm_schedule» .entry);
@@ -38,8 +40,8 @@ pub fn examine(
         .keep(rows == lower_tier_schedule.len(), 9);
     lengths
         .then(examine_figures(
-            free_flow,
-            compressor,
+            free_flow.0,
+            compressor.0,
             firm_mdq,
             auction_mdq,
             firm_schedule,
@@ -106,4 +108,14 @@ fn is_idle(mdq: u32, schedule: u32) -> bool
         return 0 < schedule;
     }
     false
+}
+
+// The figure of a row, 0 past the list.
+fn figure(figures: &[u32], row: usize) -> u32
+    ensures { λ r. ⌜ r ≡ col (now (figures .entry)) row ⌝ }
+{
+    if figures.len() <= row {
+        return 0;
+    }
+    figures[row]
 }

@@ -1,8 +1,8 @@
 -- The code is the chain of tests as it is defined.
 use borrow.Author.Needs.{needs}
-use Rattle.dayshares.specs.Answer.{figures}
-use Rattle.dayshares.proofs.examine.examine_figures.Statement.{statement}
-use Rattle.dayshares.proofs.examine.examine_figures.Tie as tie
+use Rattle.daytable.specs.Acceptance.{figures}
+use Rattle.daytable.proofs.examine_figures.Statement.{statement}
+use Rattle.daytable.proofs.examine_figures.Tie as tie
 
 keep-requires : tie.Need-keep-requires
 keep-requires c κs = search needs
@@ -30,7 +30,19 @@ gigajoules-within-requires-5 c κs = search needs
 
 returns : tie.Need-returns
 unfolding figures
-returns c = cc
+returns c =
+    let mdqs = c .before .before .before in
+    let singles = mdqs .before .before in
+    rw (
+      c .gigajoules-within5 .ensures,
+      c .before .gigajoules-within4 .ensures,
+      c .before .before .gigajoules-within3 .ensures,
+      mdqs .gigajoules-within2 .ensures,
+      mdqs .before .gigajoules-within .ensures,
+      singles .keep3 .ensures,
+      singles .before .keep2 .ensures,
+      singles .before .before .before .keep .ensures,
+    )
 
 pub examine-figures-spec : {M : Type 1} → statement M
 examine-figures-spec =

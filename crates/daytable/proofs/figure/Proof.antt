@@ -2,8 +2,8 @@
 use mathlib.Core.Path.{sym}
 use borrow.Author.Needs.{needs}
 use lib.ListN.{List·getD-eq-default}
-use Rattle.dayshares.proofs.lists.figure.Statement.{statement}
-use Rattle.dayshares.proofs.lists.figure.Tie as tie
+use Rattle.daytable.proofs.figure.Statement.{statement}
+use Rattle.daytable.proofs.figure.Tie as tie
 
 returns : tie.Need-returns
 returns c = sym (List·getD-eq-default (c .before .args .figures .now) 0 (c .if1 .taken))

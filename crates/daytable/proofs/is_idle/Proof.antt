@@ -1,7 +1,7 @@
 -- One branch a test.
 use borrow.Author.Tests.{eq-eqb, ne-eqb}
-use Rattle.dayshares.proofs.examine.is_idle.Statement.{statement}
-use Rattle.dayshares.proofs.examine.is_idle.Tie as tie
+use Rattle.daytable.proofs.is_idle.Statement.{statement}
+use Rattle.daytable.proofs.is_idle.Tie as tie
 
 returns : tie.Need-returns
 returns c = rw (eq-eqb _ _ (c .if1 .taken))

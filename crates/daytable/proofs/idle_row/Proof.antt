@@ -5,9 +5,9 @@ use borrow.Author.Needs.{needs}
 use lib.ListN.{length}
 use Rattle.columns.specs.Column.{col}
 use Rattle.columns.proofs.Firsts.{Searched, searched-none, searched-more, stops, ends}
-use Rattle.dayshares.specs.Answer.{idle}
-use Rattle.dayshares.proofs.examine.idle_row.Statement.{statement}
-use Rattle.dayshares.proofs.examine.idle_row.Tie as tie
+use Rattle.daytable.specs.Acceptance.{idle}
+use Rattle.daytable.proofs.idle_row.Statement.{statement}
+use Rattle.daytable.proofs.idle_row.Tie as tie
 
 abbrev Inv-loop : tie.InvT-loop
 Inv-loop mdqs schedules row₀ row = Searched (λ i. idle (col mdqs i) (col schedules i)) (length mdqs) row

@@ -1,8 +1,8 @@
 -- The code is the chain of tests as it is defined.
 use borrow.Author.Needs.{needs}
-use Rattle.dayshares.specs.Answer.{lengths, check}
-use Rattle.dayshares.proofs.examine.examine.Statement.{statement}
-use Rattle.dayshares.proofs.examine.examine.Tie as tie
+use Rattle.daytable.specs.Acceptance.{lengths, check}
+use Rattle.daytable.proofs.examine_day.Statement.{statement}
+use Rattle.daytable.proofs.examine_day.Tie as tie
 
 keep-requires : tie.Need-keep-requires
 keep-requires c κs = search needs
@@ -65,8 +65,8 @@ returns c =
       long .before .before .before .keep .ensures,
     )
 
-pub examine-spec : {M : Type 1} → statement M
-examine-spec =
+pub examine-day-spec : {M : Type 1} → statement M
+examine-day-spec =
     tie.close
     (tie.spec
     keep-requires
