@@ -1,5 +1,5 @@
 -- The laws of sums over rows.
-use mathlib.Core.Path.{_≡_, ap, sym}
+use mathlib.Core.Path.{_≡_, ap, sym, _∙_}
 use mathlib.Core.Logic.{⊎-elim}
 use Prim.Native.Nat.{ℕ, zero, suc, _+_, _*_, _≤_, _<_}
 use native.Mathlib.Nat.{lt-suc-self, le-step, le-of-suc-le-suc, eq-or-lt-of-le, le-antisymm, le-of-eq}
@@ -50,6 +50,25 @@ sum-cong n f g h =
 -- bounded rows have a bounded sum
 pub sum-bound : (n : ℕ) (f : ℕ → ℕ) (k : ℕ) → ((i : ℕ) → i < n → f i ≤ k) → sum n f ≤ n * k
 sum-bound n f k h = omega (arith, sum-mono n f (λ i. k) h, sum-same n k)
+
+-- a loop has added up the rows of f below `row`, of n
+pub record Adding (n : ℕ) (f : ℕ → ℕ) (row total : ℕ) : Type 0 where
+  pub inside : row ≤ n
+  pub adds : total ≡ sum row f
+
+module _ (n : ℕ) (f : ℕ → ℕ) where
+  pub adding-none : Adding n f 0 0
+  adding-none = record { inside = omega arith; adds = sym (sum-none f) }
+
+  module _ {row total : ℕ} (A : Adding n f row total) where
+    pub adding-next : {figure : ℕ} → row < n → figure ≡ f row → Adding n f (row + 1) (total + figure)
+    adding-next l e = record { inside = omega arith; adds = omega (arith, A .adds, sum-next row f) }
+
+    pub adding-bound : (k : ℕ) → ((i : ℕ) → i < n → f i ≤ k) → total ≤ row * k
+    adding-bound k h = omega (arith, A .adds, sum-bound row f k (λ i l. h i (omega (arith, A .inside))))
+
+    pub adding-all : n ≤ row → total ≡ sum n f
+    adding-all l = A .adds ∙ ap (λ m. sum m f) (le-antisymm (A .inside) l)
 
 -- a sum above zero has a row
 pub sum-positive : (n : ℕ) (f : ℕ → ℕ) → 0 < sum n f → 0 < n

@@ -65,6 +65,7 @@ pub fn share_accepted(
         lower_tier_schedule,
         lower_tier,
     );
+    let left = rest - lower_tier_given.total.0;
     let levels = Levels {
         one: firm_given.one,
         two: firm_given.two,
@@ -77,6 +78,6 @@ pub fn share_accepted(
         firm: Gigajoules(firm_given.total),
         auction: Gigajoules(auction_given.total.0),
         lower_tier: Gigajoules(lower_tier_given.total.0),
-        left: Gigajoules(rest - lower_tier_given.total.0),
+        left: Gigajoules(left),
     }
 }

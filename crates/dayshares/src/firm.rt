@@ -61,11 +61,13 @@ fn three_rounds(
     let one = hold(free_flow, free_flow_mdq, schedule, given);
     let two = hold_next(compressor, &compressor_mdq[..rows], schedule, given);
     let spent = one.total.0 + two.total.0;
-    let three = hold_next(free_flow + compressor - spent, mdq, schedule, given);
+    let left = free_flow + compressor - spent;
+    let three = hold_next(left, mdq, schedule, given);
+    let total = spent + three.total.0;
     FirmGiven {
         one: one.level,
         two: two.level,
         three: three.level,
-        total: spent + three.total.0,
+        total,
     }
 }

@@ -1,12 +1,13 @@
 -- Shares by ratio, for all their uses: they add up to at most c and fall short by fewer than there are rows; and a round
 -- gives a row its need or its part less one.
-use mathlib.Core.Path.{ap}
+use mathlib.Core.Path.{_≡_, ap}
 use mathlib.Core.Logic.{⊎-elim}
 use Prim.Native.Nat.{ℕ, _+_, _*_, _-_, _/_, _≤_, _<_, min}
 use native.Mathlib.Nat.{
   mul-le-mul-left,
   mul-le-mul-right,
   mul-zero,
+  zero-mul,
   eq-zero-or-pos,
   div-zero,
   zero-div,
@@ -17,10 +18,15 @@ use native.Mathlib.Nat.{
 }
 use native.Mathlib.Omega.{arith}
 use Rattle.columns.specs.Sum.{sum}
-use Rattle.columns.proofs.Sums.{sum-mono, sum-add, sum-scale, sum-same, sum-positive}
+use Rattle.columns.proofs.Sums.{sum-mono, sum-add, sum-scale, sum-same, sum-bound, sum-positive}
 use Rattle.sharing.specs.Round.{level, shares, Small}
 use Rattle.sharing.specs.Part.{part}
 use Rattle.sharing.proofs.Levels.{share-top, total-weights, level-is}
+
+-- of c so much is given to n rows: never more, and less by fewer than there are rows, if there is one
+pub record Spent (n c given : ℕ) : Type 0 where
+  pub most : given ≤ c
+  pub short : 0 < n → c < given + n
 
 module _ (n : ℕ) (w : ℕ → ℕ) (c : ℕ) where
   -- the parts come to at most c
@@ -51,6 +57,21 @@ module _ (n : ℕ) (w : ℕ → ℕ) (c : ℕ) where
         sum-mono n (λ i. w i * c + 1) (λ i. part n w c i * sum n w + sum n w)
             (λ i l. omega (arith, lt-div-mul-add {a = c * w i} {b = sum n w} pos)),
       ))
+
+  -- of nothing a part is nothing
+  pub part-none : c ≡ 0 → (i : ℕ) → part n w c i ≡ 0
+  part-none none i = rw (none, zero-mul, zero-div)
+
+  -- where weights that are all zero have nothing to share, the parts spend c
+  pub parts-spent : (0 < c → 0 < sum n w) → Spent n c (sum n (part n w c))
+  parts-spent weighted =
+      ⊎-elim
+      (λ none.
+      record {
+        most = omega (arith, sum-bound n (part n w c) 0 (λ i l. omega (arith, part-none none i)));
+        short = λ row. omega arith;
+      })
+      (λ some. record { most = parts-fit (weighted some); short = λ row. parts-left (weighted some) }) (eq-zero-or-pos c)
 
 -- where c × 1,000,000 is at most W × (t + 1), the part by ratio less one is within v × t / 1,000,000
 under-ratio : (c v W t : ℕ) → 0 < W → v ≤ 1_000_000 → c * 1_000_000 ≤ W * (t + 1) → c * v / W - 1 ≤ v * t / 1_000_000

@@ -79,8 +79,8 @@ both-requires c κs = search needs
 offer-requires-2 : tie.Need-offer-requires-2
 offer-requires-2 c κs = lower-tier-ready (auction-stage (c .before .before .before .before .before .before .before))
 
-sub-t21 : tie.Need-sub-t21
-sub-t21 c = lower-tier-spent (lower-tier-stage (c .before .before .before))
+sub-left : tie.Need-sub-left
+sub-left c = lower-tier-spent (lower-tier-stage (c .before .before .before))
 
 same-length : tie.Need-same-length
 same-length c = search needs
@@ -107,7 +107,7 @@ share-accepted-spec =
     is-full-requires-2
     both-requires
     offer-requires-2
-    sub-t21
+    sub-left
     same-length
     same-length-2
     same-length-3

@@ -68,17 +68,17 @@ hold-next-requires c κs = two-ready (one (c .before .before .before .before))
 add-spent : tie.Need-add-spent
 add-spent c = omega (arith, spent-small (two (c .before .before .before .before)))
 
-add-hold-next : tie.Need-add-hold-next
-add-hold-next c = search needs
+add-left : tie.Need-add-left
+add-left c = search needs
 
-sub-hold-next : tie.Need-sub-hold-next
-sub-hold-next c = spent-fits (two (c .before .before .before .before))
+sub-left : tie.Need-sub-left
+sub-left c = spent-fits (two (c .before .before .before .before))
 
 hold-next-requires-2 : tie.Need-hold-next-requires-2
 hold-next-requires-2 c κs = three-ready (two (c .before .before .before .before .before))
 
-add-t22 : tie.Need-add-t22
-add-t22 c = omega (arith, all-small (three (c .before .before .before)))
+add-total : tie.Need-add-total
+add-total c = omega (arith, all-small (three (c .before .before .before)))
 
 same-length : tie.Need-same-length
 same-length c = search needs
@@ -97,9 +97,9 @@ three-rounds-spec =
     slice-aggregate-hold-next
     hold-next-requires
     add-spent
-    add-hold-next
-    sub-hold-next
+    add-left
+    sub-left
     hold-next-requires-2
-    add-t22
+    add-total
     same-length
     returns)
