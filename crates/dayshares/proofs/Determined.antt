@@ -1,7 +1,8 @@
 -- Two answers that meet the statement of `share_day` are equal, and so are the three lent lists afterwards.
-use mathlib.Core.Path.{_≡_, sym, _∙_}
+use mathlib.Core.Path.{_≡_}
 use mathlib.Core.List.{List}
 use Prim.Native.Nat.{ℕ}
+use Rattle.units.proofs.Determined.{determined}
 use Rattle.dayshares.specs.declared.Day.{Day}
 use Rattle.daytable.specs.Table.{Table}
 use Rattle.dayshares.specs.Answer.{Answered}
@@ -10,8 +11,8 @@ pub day-determined : {T : Table} {firm auction lower-tier : List ℕ} {d₁ d₂
     → Answered T firm auction lower-tier d₁ f₁ a₁ l₁ → Answered T firm auction lower-tier d₂ f₂ a₂ l₂
     → (d₁ ≡ d₂) × (f₁ ≡ f₂) × (a₁ ≡ a₂) × (l₁ ≡ l₂)
 day-determined a b = (
-  a .answers ∙ sym (b .answers),
-  a .leaves-firm ∙ sym (b .leaves-firm),
-  a .leaves-auction ∙ sym (b .leaves-auction),
-  a .leaves-lower-tier ∙ sym (b .leaves-lower-tier),
+  determined (a .answers) (b .answers),
+  determined (a .leaves-firm) (b .leaves-firm),
+  determined (a .leaves-auction) (b .leaves-auction),
+  determined (a .leaves-lower-tier) (b .leaves-lower-tier),
 )

@@ -4,12 +4,16 @@ use Prim.Native.Nat.{ℕ, _+_, _*_, _-_, _/_}
 use lib.ListN.{length}
 use Rattle.columns.specs.Column.{col}
 use Rattle.columns.specs.Sum.{sum}
+use Rattle.units.specs.declared.Gigajoules.{Gigajoules}
 use Rattle.sharing.specs.Round.{level, shares}
 use Rattle.sharing.specs.Chain.{unmet, after}
 
 -- three quarters of the firm MDQ rounded down (75/25 in cl. 15.3)
 abbrev pub three-quarters : ℕ → ℕ
 three-quarters mdq = 3 * mdq / 4
+
+abbrev pub free-flow-mdq : Gigajoules → Gigajoules
+free-flow-mdq mdq = record { 0 = three-quarters (mdq .0) }
 
 pub record Firm : Type 0 where
   pub rows : ℕ

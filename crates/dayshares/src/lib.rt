@@ -9,7 +9,7 @@ use units::Check;
 use units::Gigajoules;
 use units::Refusal;
 ghost use mathlib.Core.Path.{_≡_};
-ghost use Rattle.dayshares.specs.Firm.{three-quarters};
+ghost use Rattle.dayshares.specs.Firm.{free-flow-mdq};
 ghost use Rattle.dayshares.specs.Answer.{Answered};
 
 // The levels of a day's five rounds; 0 for a round not held.
@@ -37,7 +37,7 @@ pub enum Day {
 
 // A row's Free Flow MDQ: three quarters of its firm MDQ rounded down.
 pub fn free_flow_mdq(mdq: Gigajoules) -> Gigajoules
-    ensures { λ r. ⌜ r .0 ≡ three-quarters (mdq .0) ⌝ }
+    ensures { λ r. ⌜ r ≡ free-flow-mdq mdq ⌝ }
 {
     Gigajoules((mdq.0 as u64 * 3 / 4) as u32)
 }

@@ -1,4 +1,3 @@
-pub mod Passes
 pub mod Searches
 pub mod Accepting
 pub mod Determined

@@ -1,2 +1,3 @@
 pub mod Aboves
 pub mod Checks
+pub mod Determined

@@ -1,4 +1,5 @@
 -- The rows that the loop has passed hold their Free Flow MDQ.
+use mathlib.Core.Path.{ap}
 use Prim.Native.Nat.{_-_, _≤_}
 use native.Mathlib.Omega.{arith}
 use borrow.Author.Needs.{needs}
@@ -40,7 +41,7 @@ loop-less : tie.Need-loop-less Inv-loop μ-loop
 loop-less c = search needs
 
 loop-again : tie.Need-loop-again Inv-loop μ-loop
-loop-again c = (omega arith, filling-next _ _ _ _ _ (c .before .before .before .loop .inv .1) (c .free-flow-mdq .ensures))
+loop-again c = (omega arith, filling-next _ _ _ _ _ (c .before .before .before .loop .inv .1) (ap (λ g. g .0) (c .free-flow-mdq .ensures)))
 
 same-length : tie.Need-same-length Inv-loop μ-loop
 same-length c = c .before .loop .inv .1 .long

@@ -6,19 +6,20 @@ use lib.ListN.{length}
 use Rattle.columns.specs.Column.{col}
 use Rattle.columns.proofs.Lists.{Filling, filling-none, filling-next, filling-all}
 use Rattle.sharing.specs.Round.{share}
-use Rattle.rounds.proofs.Passes.{Passing, passing-none, passing-next, passing-all}
+use Rattle.columns.proofs.Sums.{Adding, adding-none, adding-next, adding-bound, adding-all}
 use Rattle.rounds.proofs.fill.fill.Statement.{statement}
 use Rattle.rounds.proofs.fill.fill.Tie as tie
 
 abbrev Inv-loop : tie.InvT-loop
 Inv-loop weights needs level shares₀ total₀ row₀ shares total row =
-    Passing weights needs level row total × Filling shares₀ (λ i. share (col weights i) (col needs i) level) row shares
+    Adding (length weights) (λ i. share (col weights i) (col needs i) level) row total
+    × Filling shares₀ (λ i. share (col weights i) (col needs i) level) row shares
 
 abbrev μ-loop : tie.MeasureT-loop
 μ-loop weights needs level shares₀ total₀ row₀ shares total row = length weights - row
 
 loop-holds : tie.Need-loop-holds Inv-loop μ-loop
-loop-holds c = (passing-none _ _ _, filling-none _ _)
+loop-holds c = (adding-none _ _, filling-none _ _)
 
 mul-share-at : tie.Need-mul-share-at Inv-loop μ-loop
 mul-share-at c = search needs
@@ -47,8 +48,13 @@ slice-write-shares c = omega arith
 add-total : tie.Need-add-total Inv-loop μ-loop
 add-total c =
     let turn = c .before .before .before in
-    let start = turn .before .before .before .before .before in
-    omega (arith, start .pre .0 .needs (turn .before .loop .row) (turn .loop-test .taken))
+    let rows = turn .before .before .before .before .before .pre .0 in
+    let now = turn .before .loop in
+    omega (
+      arith,
+      adding-bound _ _ (now .inv .0) 1_000_000 (λ i l. omega (arith, rows .needs i l)),
+      rows .needs (now .row) (turn .loop-test .taken),
+    )
 
 add-row : tie.Need-add-row Inv-loop μ-loop
 add-row c = search needs
@@ -58,9 +64,8 @@ loop-less c = search needs
 
 loop-again : tie.Need-loop-again Inv-loop μ-loop
 loop-again c =
-    let turn = c .before .before .before in
-    let start = turn .before .before .before .before .before in (
-      rw (c .share-at .ensures) (passing-next _ _ _ (start .pre .0) _ _ (turn .before .loop .inv .0) (turn .loop-test .taken)),
+    let turn = c .before .before .before in (
+      adding-next _ _ (turn .before .loop .inv .0) (turn .loop-test .taken) (c .share-at .ensures),
       filling-next _ _ _ _ _ (turn .before .loop .inv .1) (c .share-at .ensures),
     )
 
@@ -69,10 +74,9 @@ same-length c = c .before .loop .inv .1 .long
 
 returns : tie.Need-returns Inv-loop μ-loop
 returns c =
-    let start = c .before .before .before .before .before in
     record {
       shares = filling-all _ _ _ _ _ (c .before .loop .inv .1) (c .before .loop .inv .0 .inside) (c .loop-test .left);
-      sum = passing-all _ _ _ (start .pre .0) _ _ (c .before .loop .inv .0) (c .loop-test .left);
+      sum = adding-all _ _ (c .before .loop .inv .0) (c .loop-test .left);
     }
 
 pub fill-spec : {M : Type 1} → statement M

@@ -4,19 +4,23 @@ use Prim.Native.Nat.{_*_, _-_, _≤_}
 use native.Mathlib.Omega.{arith}
 use borrow.Author.Needs.{needs}
 use lib.ListN.{length}
-use Rattle.rounds.proofs.Passes.{Passing, passing-none, passing-next, passing-all}
+use Rattle.columns.specs.Column.{col}
+use Rattle.columns.proofs.Sums.{Adding, adding-none, adding-next, adding-bound, adding-all}
+use Rattle.sharing.specs.Round.{share}
 use Rattle.rounds.proofs.pass.pass_at.Statement.{statement}
 use Rattle.rounds.proofs.pass.pass_at.Tie as tie
 
 abbrev Inv-loop : tie.InvT-loop
 Inv-loop weights needs level total₀ full₀ short₀ row₀ total full short row =
-    Passing weights needs level row total × (full ≤ row * 1_000_000) × (short ≤ row * 1_000_000)
+    Adding (length weights) (λ i. share (col weights i) (col needs i) level) row total
+    × (full ≤ row * 1_000_000)
+    × (short ≤ row * 1_000_000)
 
 abbrev μ-loop : tie.MeasureT-loop
 μ-loop weights needs level total₀ full₀ short₀ row₀ total full short row = length weights - row
 
 loop-holds : tie.Need-loop-holds Inv-loop μ-loop
-loop-holds c = (passing-none _ _ _, omega arith, omega arith)
+loop-holds c = (adding-none _ _, omega arith, omega arith)
 
 mul-weight : tie.Need-mul-weight Inv-loop μ-loop
 mul-weight c = search needs
@@ -40,7 +44,15 @@ cast-total : tie.Need-cast-total Inv-loop μ-loop
 cast-total c = search needs
 
 add-total : tie.Need-add-total Inv-loop μ-loop
-add-total c = search needs
+add-total c =
+    let turn = c .before .before .before in
+    let rows = turn .before .before .before .before .pre .0 in
+    let now = turn .before .loop in
+    omega (
+      arith,
+      adding-bound _ _ (now .inv .0) 1_000_000 (λ i l. omega (arith, rows .needs i l)),
+      rows .needs (now .row) (turn .loop-test .taken),
+    )
 
 cast-short : tie.Need-cast-short Inv-loop μ-loop
 cast-short c =
@@ -70,13 +82,13 @@ loop-again c =
     let rows = turn .before .before .before .before .pre .0 in
     let weight = rows .weights (turn .before .loop .row) (turn .loop-test .taken) in
     let need = rows .needs (turn .before .loop .row) (turn .loop-test .taken) in (
-      rw (c .before .share-at .ensures) (passing-next _ _ _ rows _ _ (turn .before .loop .inv .0) (turn .loop-test .taken)),
+      adding-next _ _ (turn .before .loop .inv .0) (turn .loop-test .taken) (c .before .share-at .ensures),
       ⊎-elim (λ w. omega arith) (λ w. omega arith) (c .if1 .came),
       ⊎-elim (λ w. omega arith) (λ w. omega arith) (c .if1 .came),
     )
 
 returns : tie.Need-returns Inv-loop μ-loop
-returns c = passing-all _ _ _ (c .before .before .before .before .pre .0) _ _ (c .before .loop .inv .0) (c .loop-test .left)
+returns c = adding-all _ _ (c .before .loop .inv .0) (c .loop-test .left)
 
 pub pass-at-spec : {M : Type 1} → statement M
 pass-at-spec =
