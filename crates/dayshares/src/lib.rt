@@ -39,7 +39,7 @@ pub enum Day {
 pub fn free_flow_mdq(mdq: Gigajoules) -> Gigajoules
     ensures { λ r. ⌜ r ≡ free-flow-mdq mdq ⌝ }
 {
-    Gigajoules((mdq.0 as u64 * 3 / 4) as u32)
+    Gigajoules((3 * (mdq.0 as u64) / 4) as u32)
 }
 
 // 01, "A day's shares": each class's shares go to the front of its lent list; a refusal leaves all three as they were.
