@@ -14,7 +14,7 @@ use Rattle.dayshares.specs.declared.firm.FirmGiven.{FirmGiven}
 use Rattle.dayshares.specs.declared.Shares.{Shares}
 use Rattle.dayshares.specs.Class.{full}
 use Rattle.daytable.specs.Table.{Table, rows}
-use Rattle.dayshares.specs.Classes.{firm, firm-given, auction-held, auction-offered, auction-level, auction-given, auction-total, lower-tier-held, lower-tier-offered, lower-tier-level, lower-tier-total, left}
+use Rattle.dayshares.specs.Given.{firm, firm-given, auction-held, auction-offered, auction-level, auction-given, auction-total, lower-tier-held, lower-tier-offered, lower-tier-level, lower-tier-total, left}
 use Rattle.dayshares.specs.Leaves.{FirmHeld, Offered, DayReady, DayShared}
 use Rattle.dayshares.proofs.Firms.{firm-fits}
 use Rattle.dayshares.proofs.Classes.{class-fits, full-same}

@@ -12,7 +12,7 @@ use Rattle.sharing.proofs.Levels.{level-one as the-level}
 use Rattle.dayshares.specs.Firm.{level-one, level-two, level-three, given-one, given-two, given-firm}
 use Rattle.dayshares.specs.Class.{class-level, class-given}
 use Rattle.daytable.specs.Table.{Table}
-use Rattle.dayshares.specs.Classes.{firm, firm-given, auction-level, auction-given, left}
+use Rattle.dayshares.specs.Given.{firm, firm-given, auction-level, auction-given, left}
 
 -- ---- free flow 300, compressor 100; firm MDQ/schedule 400/400 and 200/60
 abbrev pub first-day : Table

@@ -8,7 +8,7 @@ use Rattle.columns.specs.Column.{col}
 use Rattle.units.specs.declared.refusal.Check.{Check}
 use Rattle.dayshares.specs.Class.{full}
 use Rattle.daytable.specs.Table.{Table, rows}
-use Rattle.dayshares.specs.Classes.{firm, firm-given, auction-held, auction-offered, auction-given, auction-total, lower-tier-held, lower-tier-offered, lower-tier-given, lower-tier-total, left}
+use Rattle.dayshares.specs.Given.{firm, firm-given, auction-held, auction-offered, auction-given, auction-total, lower-tier-held, lower-tier-offered, lower-tier-given, lower-tier-total, left}
 use Rattle.daytable.specs.Acceptance.{check}
 use Rattle.dayshares.specs.Promise.{Promise}
 use Rattle.daytable.proofs.Accepting.{Accepting, accepting}

@@ -12,7 +12,7 @@ use Rattle.daytable.specs.Acceptance.{check}
 use Rattle.dayshares.specs.declared.Shares.{Shares}
 use Rattle.dayshares.specs.declared.Day.{Day}
 use Rattle.dayshares.specs.Firm.{level-one, level-two, level-three}
-use Rattle.dayshares.specs.Classes.{
+use Rattle.dayshares.specs.Given.{
   firm,
   firm-given,
   firm-total,

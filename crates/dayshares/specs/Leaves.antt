@@ -18,7 +18,7 @@ use Rattle.dayshares.specs.declared.Shares.{Shares}
 use Rattle.dayshares.specs.Firm.{Firm, level-one, level-two, level-three, given-firm}
 use Rattle.dayshares.specs.Class.{class-level, class-given}
 use Rattle.daytable.specs.Table.{Table, rows}
-use Rattle.dayshares.specs.Classes.{firm-given, auction-given, lower-tier-given}
+use Rattle.dayshares.specs.Given.{firm-given, auction-given, lower-tier-given}
 use Rattle.dayshares.specs.Answer as Answer
 
 -- a round was held, with its shares at the front of a lent list

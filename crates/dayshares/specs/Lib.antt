@@ -1,6 +1,6 @@
 pub mod Firm
 pub mod Class
-pub mod Classes
+pub mod Given
 pub mod Answer
 pub mod Leaves
 pub mod Promise

@@ -5,7 +5,7 @@ use Rattle.columns.specs.Column.{col}
 use Rattle.sharing.specs.Part.{part}
 use Rattle.dayshares.specs.Firm.{compressor-mdq}
 use Rattle.daytable.specs.Table.{Table, rows}
-use Rattle.dayshares.specs.Classes.{firm, firm-given, firm-total, auction-given, auction-total, lower-tier-given, lower-tier-total, left}
+use Rattle.dayshares.specs.Given.{firm, firm-given, firm-total, auction-given, auction-total, lower-tier-given, lower-tier-total, left}
 
 -- a firm row's pro-rata parts of free flow and of compressor capacity, each rounded down and lessened by one, never below zero
 abbrev pub firm-floor : Table → ℕ → ℕ
