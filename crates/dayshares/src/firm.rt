@@ -3,6 +3,7 @@ use crate::lists::free_flow_list;
 use crate::lists::rest_list;
 use crate::round::hold;
 use crate::round::hold_next;
+use units::MOST_ROWS;
 ghost use Rattle.columns.specs.Column.{col};
 ghost use Rattle.dayshares.specs.Firm.{firm-of, three-quarters};
 ghost use Rattle.dayshares.specs.Leaves.{FirmReady, Split, FirmHeld};
@@ -29,7 +30,7 @@ pub fn share_firm(
         (now (given .entry)) r (now (given .exit)) ⌝ }
 {
     let rows = mdq.len();
-    let mut free_flow_mdq = [0u32; 64];
+    let mut free_flow_mdq = [0u32; MOST_ROWS];
     free_flow_list(mdq, &mut free_flow_mdq);
     three_rounds(
         free_flow,
@@ -56,7 +57,7 @@ fn three_rounds(
         (now (given .entry)) r (now (given .exit)) ⌝ }
 {
     let rows = mdq.len();
-    let mut compressor_mdq = [0u32; 64];
+    let mut compressor_mdq = [0u32; MOST_ROWS];
     rest_list(mdq, free_flow_mdq, &mut compressor_mdq);
     let one = hold(free_flow, free_flow_mdq, schedule, given);
     let two = hold_next(compressor, &compressor_mdq[..rows], schedule, given);

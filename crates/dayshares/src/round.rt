@@ -4,6 +4,7 @@ use crate::lists::rest_list;
 use rounds::Given;
 use rounds::Round;
 use units::Gigajoules;
+use units::MOST_ROWS;
 ghost use lib.ListN.{length};
 ghost use Rattle.rounds.specs.Rows.{Ready};
 ghost use Rattle.dayshares.specs.Leaves.{Held, NextReady, NextHeld};
@@ -29,9 +30,9 @@ pub fn hold_next(capacity: u32, weights: &[u32], schedule: &[u32], given: &mut [
     ensures { λ r. ⌜ NextHeld capacity (now (weights .entry)) (now (schedule .entry)) (now (given .entry)) r (now (given .exit)) ⌝ }
 {
     let rows = weights.len();
-    let mut needs = [0u32; 64];
+    let mut needs = [0u32; MOST_ROWS];
     rest_list(schedule, given, &mut needs);
-    let mut shares = [0u32; 64];
+    let mut shares = [0u32; MOST_ROWS];
     let round = hold(capacity, weights, &needs[..rows], &mut shares);
     add_list(&shares[..rows], given);
     round
