@@ -1,0 +1,5 @@
+pub mod HalfUps
+pub mod Products
+pub mod Charged
+pub mod Escalated
+pub mod Figures

@@ -1,0 +1,4 @@
+pub mod HalfUp
+pub mod Rates
+pub mod Charges
+pub mod Escalation
