@@ -1,0 +1,8 @@
+pub mod Shares
+pub mod Cases
+pub mod Stranding
+pub mod Accepting
+pub mod Answers
+pub mod Determined
+pub mod Spending
+pub mod Figures

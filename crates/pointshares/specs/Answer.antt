@@ -1,0 +1,57 @@
+-- What `share_hour` answers, and what it leaves in the lent list.
+use mathlib.Core.Path.{_≡_}
+use mathlib.Core.Bool.{not}
+use mathlib.Core.List.{List}
+use Prim.Native.Nat.{ℕ}
+use lib.Dec.{leb, eqb}
+use lib.ListN.{length}
+use lib.Seq.{sets}
+use Rattle.columns.specs.Column.{listed}
+use Rattle.columns.specs.Sum.{sum}
+use Rattle.units.specs.declared.Megajoules.{Megajoules}
+use Rattle.units.specs.declared.refusal.Check.{Check}
+use Rattle.units.specs.Bound.{most-hour, most-gigajoules, most-rows}
+use Rattle.units.specs.Refusals.{_then_, keep, within, accepted-or}
+use Rattle.pointshares.specs.declared.Hour.{Hour}
+use Rattle.pointshares.specs.Share.{shares, stranded}
+
+-- refused: 9 unequal lists; 3 the capacity, the count, an entitlement, a firm MDQ; 6 stranded capacity; 7 the lent list
+unfoldable pub check : ℕ → List ℕ → List ℕ → ℕ → Check
+check h entitlements mdqs room =
+    Check.Accepted
+    then keep (eqb (length entitlements) (length mdqs)) 9
+    then keep (leb h most-hour) 3
+    then keep (leb (length entitlements) most-rows) 3
+    then within most-hour entitlements
+    then within most-gigajoules mdqs
+    then keep (not (stranded entitlements mdqs h)) 6
+    then keep (leb (length entitlements) room) 7
+
+-- what the shippers are given together
+abbrev pub given : ℕ → List ℕ → List ℕ → Megajoules
+given h entitlements mdqs = record { 0 = sum (length entitlements) (shares entitlements mdqs h) }
+
+abbrev pub answer : Check → Megajoules → Hour
+answer Check.Accepted g = Hour.Shared g
+answer (Check.Refused x) g = Hour.Refused x
+
+-- of an answer, 01's number (0 where accepted), place, and figure (zero where refused)
+abbrev pub number : Hour → ℕ
+number (Hour.Shared g) = 0
+number (Hour.Refused x) = x .number
+
+abbrev pub place : Hour → ℕ
+place (Hour.Shared g) = 0
+place (Hour.Refused x) = x .place
+
+abbrev pub figure : Hour → Megajoules
+figure (Hour.Shared g) = g
+figure (Hour.Refused x) = record { 0 = 0 }
+
+-- the statement of `share_hour`: its answer, and the lent list before and after
+pub record Answered (h : ℕ) (entitlements mdqs lent : List ℕ) (hour : Hour) (after : List ℕ) : Type 0 where
+  pub answers : hour ≡ answer (check h entitlements mdqs (length lent)) (given h entitlements mdqs)
+  pub leaves :
+      after
+      ≡ accepted-or (check h entitlements mdqs (length lent))
+      (sets lent 0 (listed (length entitlements) (shares entitlements mdqs h))) lent

@@ -1,0 +1,3 @@
+pub mod Share
+pub mod Rows
+pub mod Answer

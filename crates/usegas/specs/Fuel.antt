@@ -1,0 +1,57 @@
+-- 01, "System use gas"; cl. 4.3: positive imbalance fuel.
+use mathlib.Core.Bool.{Bool}
+use Prim.Native.Nat.{ℕ, _*_, _-_, _/_, max}
+use lib.Dec.{leb}
+use lib.IntN.{ℤ, pos, negsuc, natAbs}
+use Rattle.units.specs.declared.Gigajoules.{Gigajoules}
+use Rattle.units.specs.declared.Megajoules.{Megajoules}
+use Rattle.units.specs.declared.refusal.Check.{Check}
+use Rattle.units.specs.Bound.{most-imbalance, most-gigajoules}
+use Rattle.units.specs.Refusals.{_then_, keep}
+use Rattle.usegas.specs.declared.fuel.Imbalance.{Imbalance}
+use Rattle.usegas.specs.declared.fuel.ImbalanceFuel.{ImbalanceFuel}
+
+-- within its bound either way
+abbrev pub bounded-size : ℤ → Bool
+bounded-size imbalance = leb (natAbs imbalance) most-imbalance
+
+-- refused: 3 the imbalance at start and at end of day, the MDQ
+unfoldable pub check : Imbalance → Imbalance → Gigajoules → Check
+check start end mdq =
+    Check.Accepted
+    then keep (bounded-size (start .0)) 3
+    then keep (bounded-size (end .0)) 3
+    then keep (leb (mdq .0) most-gigajoules) 3
+
+-- an imbalance above zero; one below counts as none
+abbrev pub positive : ℤ → ℕ
+positive (pos n) = n
+positive (negsuc n) = 0
+
+-- PI: the greater of the positive accumulated imbalance at start and end of day
+abbrev pub greatest : Imbalance → Imbalance → Megajoules
+greatest start end = record { 0 = max (positive (start .0)) (positive (end .0)) }
+
+-- (PI − 80 × MDQ) / 100 MJ, rounded down, zero where PI is at most 80 × MDQ
+abbrev pub fuel : Megajoules → Gigajoules → Megajoules
+fuel pi mdq = record { 0 = (pi .0 - 80 * mdq .0) / 100 }
+
+abbrev pub answer : Check → Megajoules → ImbalanceFuel
+answer Check.Accepted gas = ImbalanceFuel.Supplied gas
+answer (Check.Refused x) gas = ImbalanceFuel.Refused x
+
+abbrev pub imbalance-fuel : Imbalance → Imbalance → Gigajoules → ImbalanceFuel
+imbalance-fuel start end mdq = answer (check start end mdq) (fuel (greatest start end) mdq)
+
+-- of an answer, 01's number (0 where accepted), place, and figure (zero where refused)
+abbrev pub number : ImbalanceFuel → ℕ
+number (ImbalanceFuel.Supplied gas) = 0
+number (ImbalanceFuel.Refused x) = x .number
+
+abbrev pub place : ImbalanceFuel → ℕ
+place (ImbalanceFuel.Supplied gas) = 0
+place (ImbalanceFuel.Refused x) = x .place
+
+abbrev pub figure : ImbalanceFuel → Megajoules
+figure (ImbalanceFuel.Supplied gas) = gas
+figure (ImbalanceFuel.Refused x) = record { 0 = 0 }

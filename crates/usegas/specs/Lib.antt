@@ -1,0 +1,5 @@
+pub mod Share
+pub mod Rows
+pub mod General
+pub mod Heater
+pub mod Fuel
