@@ -43,8 +43,8 @@ listed-col xs =
     ext-getD 0 (listed (length xs) (col xs)) xs (length-listed (length xs) (col xs))
     (λ i l. col-listed (length xs) (col xs) i (rw length-listed at l))
 
--- ---- stores to a lent list, row after row
-sets-append : (xs ys l : List ℕ) (i : ℕ) → sets l i (xs ++ ys) ≡ sets (sets l i xs) (i + length xs) ys
+-- ---- stores to a lent list, row after row; two runs of stores, one after the other, are one
+pub sets-append : (xs ys l : List ℕ) (i : ℕ) → sets l i (xs ++ ys) ≡ sets (sets l i xs) (i + length xs) ys
 sets-append [] ys l i = rw add-zero
 sets-append (x ∷ xs) ys l i = sets-append xs ys (set l i x) (suc i) ∙ rw (add-suc, suc-add)
 
