@@ -1,0 +1,18 @@
+// The figures of a shipper's day, hours and single figures, and whether they are within their bounds.
+mod hours;
+mod singles;
+
+pub use hours::both_days;
+pub use hours::examine_rows;
+pub use hours::figures;
+pub use singles::examine_mdqs;
+pub use singles::examine_sides;
+use units::Gigajoules;
+use units::Megajoules;
+
+// A side's single figures of a day: its schedules, forward and backhaul, and the backhaul metered.
+pub struct Side {
+    pub forward: Gigajoules,
+    pub backhaul: Gigajoules,
+    pub metered: Megajoules,
+}

@@ -1,0 +1,38 @@
+-- Sums over hours: the most that they can be, and that they fit.
+use mathlib.Core.Path.{_≡_, _∙_}
+use mathlib.Core.List.{List}
+use Prim.Native.Nat.{ℕ, _-_, _*_, _^_, _≤_, _<_, max}
+use native.Mathlib.Omega.{arith}
+use Rattle.columns.specs.Column.{col}
+use Rattle.columns.specs.Sum.{sum}
+use Rattle.columns.proofs.Sums.{sum-bound, Adding, adding-bound, adding-all}
+use Rattle.units.specs.Bound.{most-hour}
+use Rattle.metered.specs.Hours.{Within}
+use Rattle.overruns.specs.Hourly.{hourly}
+
+-- at most 24 figures, each of at most twelve hours' gas
+pub adding-fits : {n : ℕ} {f : ℕ → ℕ} {row total : ℕ} → Adding n f row total → n ≤ 24 → ((i : ℕ) → i < n → f i ≤ 12 * most-hour)
+    → total < 2 ^ 64
+adding-fits {n} {f} A few low = omega (arith, A .inside, adding-bound n f A (12 * most-hour) low)
+
+pub gas-most : (hours : List ℕ) → Within hours → (n : ℕ) → sum n (col hours) ≤ n * most-hour
+gas-most hours low n = sum-bound n (col hours) most-hour (λ hour l. low hour)
+
+-- ---- the greater of the two excesses in each hour, each above its own limit
+module _ (delivered received : List ℕ) (most-delivered most-received : ℕ) where
+  abbrev pub greater-excess : ℕ → ℕ
+  greater-excess hour = max (col delivered hour - most-delivered) (col received hour - most-received)
+
+  pub all-hours : {hour total : ℕ} (m : ℕ) → Adding 24 greater-excess hour total → 24 ≤ hour
+      → most-delivered ≡ 50 * m → most-received ≡ 44 * m → total ≡ hourly m (col delivered) (col received)
+  all-hours m A l d r = adding-all 24 greater-excess A l ∙ rw (d, r)
+
+  module _ (low : Within delivered × Within received) where
+    hour-most : (hour : ℕ) → greater-excess hour ≤ most-hour
+    hour-most hour = omega (arith, low .0 hour, low .1 hour)
+
+    pub hours-fit : {hour total : ℕ} → Adding 24 greater-excess hour total → total < 2 ^ 64
+    hours-fit A = adding-fits A (omega arith) (λ hour l. omega (arith, hour-most hour))
+
+    pub hours-most : (n : ℕ) → sum n greater-excess ≤ n * most-hour
+    hours-most n = sum-bound n greater-excess most-hour (λ hour l. hour-most hour)

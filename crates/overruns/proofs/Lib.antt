@@ -1,0 +1,10 @@
+pub mod Limits
+pub mod Excesses
+pub mod Periods
+pub mod Days
+pub mod Accepting
+pub mod Answers
+pub mod Greatest
+pub mod WholeDay
+pub mod Promises
+pub mod Figures

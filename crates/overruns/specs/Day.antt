@@ -1,0 +1,94 @@
+-- 01, "Overruns of a day": all four of a shipper's day, and the greatest of them (cl. 7.2).
+use mathlib.Core.List.{List, _++_}
+use Prim.Native.Nat.{ℕ, max}
+use Rattle.columns.specs.Column.{col}
+use Rattle.units.specs.declared.Gigajoules.{Gigajoules}
+use Rattle.units.specs.declared.Megajoules.{Megajoules}
+use Rattle.units.specs.declared.refusal.Check.{Check}
+use Rattle.units.specs.Bound.{most-hour}
+use Rattle.units.specs.Refusals.{_then_, within}
+use Rattle.metered.specs.declared.Side.{Side}
+use Rattle.metered.specs.Singles.{mdqs-check, sides-check}
+use Rattle.metered.specs.Hours.{figures, delivered, received, rows-check}
+use Rattle.overruns.specs.declared.day.Overruns.{Overruns}
+use Rattle.overruns.specs.declared.day.DayOverruns.{DayOverruns}
+use Rattle.overruns.specs.Hourly.{hourly}
+use Rattle.overruns.specs.TwelveHourly.{twelve-hourly}
+use Rattle.overruns.specs.Daily.{daily}
+
+-- a shipper's day: the figures of a tag 5 field, both sides' hours as two rows, delivered first
+pub record ShipperDay : Type 0 where
+  pub p : Gigajoules
+  pub m : Gigajoules
+  pub yesterday : List Megajoules
+  pub hours : List (List Megajoules)
+  pub receipt : Side
+  pub delivery : Side
+
+-- its hours: 35 delivered ones of both days, yesterday's 11 first, and today's 24 of each side
+pub record Hours : Type 0 where
+  pub both-days : List ℕ
+  pub delivered : List ℕ
+  pub received : List ℕ
+
+abbrev pub greatest : ℕ → ℕ → ℕ → ℕ → ℕ
+greatest hourly twelve-hourly receipt delivery = max (max hourly twelve-hourly) (max receipt delivery)
+
+-- the four, in 01's order, and the greatest
+abbrev pub with-greatest : ℕ → ℕ → ℕ → ℕ → Overruns
+with-greatest hourly twelve-hourly receipt delivery = record {
+  hourly = record { 0 = hourly };
+  «twelve_hourly» = record { 0 = twelve-hourly };
+  «daily_receipt» = record { 0 = receipt };
+  «daily_delivery» = record { 0 = delivery };
+  greatest = record { 0 = greatest hourly twelve-hourly receipt delivery };
+}
+
+-- hourly and twelve-hourly from the hours compared with their limits, daily from the hours metered
+abbrev pub overruns : ℕ → ℕ → Hours → Hours → Side → Side → Overruns
+overruns p m compared metered receipt delivery =
+    with-greatest
+    (hourly m (col (compared .delivered)) (col (compared .received)))
+    (twelve-hourly p m (col (compared .both-days)))
+    (daily (col (metered .received)) receipt)
+    (daily (col (metered .delivered)) delivery)
+
+abbrev pub hours-of : List ℕ → List (List Megajoules) → Hours
+hours-of both-days hours = record { both-days = both-days; delivered = delivered hours; received = received hours }
+
+-- single figures, then yesterday's hours, delivered, received
+unfoldable pub day-check : ShipperDay → Check
+day-check D =
+    mdqs-check (D .p) (D .m)
+    then sides-check (D .receipt) (D .delivery)
+    then within most-hour (figures (D .yesterday))
+    then rows-check (D .hours)
+
+abbrev pub day-where : Check → Overruns → DayOverruns
+day-where Check.Accepted over = DayOverruns.Over over
+day-where (Check.Refused x) over = DayOverruns.Refused x
+
+-- every metered hour is compared
+abbrev pub all-compared : Gigajoules → Gigajoules → List ℕ → List (List Megajoules) → Side → Side → Overruns
+all-compared p m both-days hours receipt delivery =
+    overruns (p .0) (m .0) (hours-of both-days hours) (hours-of both-days hours) receipt delivery
+
+abbrev pub day-overruns : ShipperDay → Overruns
+day-overruns D =
+    all-compared (D .p) (D .m) (figures (D .yesterday) ++ delivered (D .hours)) (D .hours) (D .receipt) (D .delivery)
+
+abbrev pub day-answer : ShipperDay → DayOverruns
+day-answer D = day-where (day-check D) (day-overruns D)
+
+-- 01's number (0 where accepted), place, and overruns (0 where refused)
+abbrev pub number : DayOverruns → ℕ
+number (DayOverruns.Over x) = 0
+number (DayOverruns.Refused x) = x .number
+
+abbrev pub place : DayOverruns → ℕ
+place (DayOverruns.Over x) = 0
+place (DayOverruns.Refused x) = x .place
+
+abbrev pub all-overruns : DayOverruns → Overruns
+all-overruns (DayOverruns.Over x) = x
+all-overruns (DayOverruns.Refused x) = with-greatest 0 0 0 0

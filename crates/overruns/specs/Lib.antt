@@ -1,0 +1,5 @@
+pub mod Answers
+pub mod Hourly
+pub mod Daily
+pub mod TwelveHourly
+pub mod Day

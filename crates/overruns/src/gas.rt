@@ -1,0 +1,49 @@
+use units::Gigajoules;
+use units::Megajoules;
+use units::in_megajoules;
+ghost use mathlib.Core.Path.{_≡_};
+ghost use Prim.Native.Nat.{_-_, _*_, _^_, _≤_, _<_, max};
+ghost use lib.ListN.{length};
+ghost use Rattle.columns.specs.Column.{col};
+ghost use Rattle.columns.specs.Sum.{sum};
+ghost use Rattle.metered.specs.Hours.{Within};
+
+// What is above a limit.
+pub fn excess(gas: Megajoules, limit: Megajoules) -> Megajoules
+    ensures { λ r. ⌜ r .0 ≡ gas .0 - limit .0 ⌝ }
+{
+    if gas.0 < limit.0 {
+        return Megajoules(0);
+    }
+    Megajoules(gas.0 - limit.0)
+}
+
+// The greater of two.
+pub fn greater(one: Megajoules, other: Megajoules) -> Megajoules
+    ensures { λ r. ⌜ r .0 ≡ max (one .0) (other .0) ⌝ }
+{
+    if one.0 < other.0 {
+        return other;
+    }
+    one
+}
+
+// So many thousandths of an MDQ, as the clauses set their limits.
+pub fn thousandths(count: u64, mdq: Gigajoules) -> Megajoules
+    requires { ⌜ count ≤ 1000 ⌝ }
+    ensures { λ r. ⌜ (r .0 ≡ count * mdq .0) × (r .0 < 2 ^ 63) ⌝ }
+{
+    Megajoules(count * in_megajoules(mdq).0 / 1000)
+}
+
+// The gas of some hours together.
+pub fn gas_of(hours: &[u64]) -> Megajoules
+    requires { ⌜ (length (now hours) ≤ 24) × Within (now hours) ⌝ }
+    ensures { λ r. ⌜ r .0 ≡ sum (length (now (hours .entry))) (col (now (hours .entry))) ⌝ }
+{
+    let mut total = 0;
+    for hour in 0..hours.len() {
+        total += hours[hour];
+    }
+    Megajoules(total)
+}
