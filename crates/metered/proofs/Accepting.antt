@@ -18,8 +18,8 @@ use Rattle.metered.specs.Hours.{delivered, received, Within, Rows-within
 use Rattle.metered.specs.Singles.{side-check, sides-check, Backhaul-within}
 
 -- past the last hour of a list a column has zeros
-pub all-hours : (hours : List ℕ) → ((hour : ℕ) → hour < length hours → col hours hour ≤ most-hour) → Within hours
-all-hours hours low hour = go (decLt hour (length hours))
+pub every-hour : (hours : List ℕ) → ((hour : ℕ) → hour < length hours → col hours hour ≤ most-hour) → Within hours
+every-hour hours low hour = go (decLt hour (length hours))
   where
     go : Dec (hour < length hours) → col hours hour ≤ most-hour
     go (yes l) = low hour l
@@ -35,7 +35,7 @@ both-within xs ys a b hour = go (decLt hour (length xs))
         omega (arith, b (hour - length xs), ap (col (xs ++ ys)) e ∙ getD-append-add xs ys (hour - length xs) 0)
 
 pub hours-within : (hours : List ℕ) → within most-hour hours ≡ Check.Accepted → Within hours
-hours-within hours e = all-hours hours (all-within most-hour hours e)
+hours-within hours e = every-hour hours (all-within most-hour hours e)
 
 pub rows-within : (hours : List (List Megajoules)) → rows-check hours ≡ Check.Accepted → Rows-within hours
 unfolding rows-check

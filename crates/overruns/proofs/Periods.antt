@@ -10,7 +10,7 @@ use Rattle.columns.specs.Sum.{sum}
 use Rattle.columns.proofs.Sums.{sum-cong, sum-bound, Adding, adding-next, adding-all}
 use Rattle.units.specs.Bound.{most-hour}
 use Rattle.metered.specs.Hours.{Within}
-use Rattle.metered.proofs.Accepting.{all-hours}
+use Rattle.metered.proofs.Accepting.{every-hour}
 use Rattle.overruns.specs.TwelveHourly.{period-gas, period-limit, period-excess, twelve-hourly}
 use Rattle.overruns.proofs.Excesses.{adding-fits}
 
@@ -34,7 +34,7 @@ module _ (hours : List ℕ) (h : ℕ) where
 
     pub part-within : Within hours → Within part
     part-within low =
-        all-hours part (λ k l. let e : k < 12 = omega (arith, part-length) in omega (arith, part-col k e, low (h - 1 + k)))
+        every-hour part (λ k l. let e : k < 12 = omega (arith, part-length) in omega (arith, part-col k e, low (h - 1 + k)))
 
 -- the excess of the period after so many
 module _ (p m : ℕ) (hours : List ℕ) where

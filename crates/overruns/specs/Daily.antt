@@ -5,8 +5,8 @@ use Rattle.columns.specs.Column.{col}
 use Rattle.columns.specs.Sum.{sum}
 use Rattle.units.specs.declared.Megajoules.{Megajoules}
 use Rattle.units.specs.declared.refusal.Check.{Check}
-use Rattle.metered.specs.declared.Side.{Side}
 use Rattle.units.specs.Refusals.{_then_}
+use Rattle.metered.specs.declared.Side.{Side}
 use Rattle.metered.specs.Singles.{sides-check}
 use Rattle.metered.specs.Hours.{delivered, received, rows-check}
 use Rattle.overruns.specs.declared.daily.Daily.{Daily}
