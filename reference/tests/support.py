@@ -35,15 +35,13 @@ def full_day():
     """As many rows as a day may have: 64, 32, 512 and 64."""
     names = [65_535 - 3 * row for row in reversed(range(64))]
     points = [(side, 4_096 * row - 1) for side in (0, 1) for row in range(1, 17)]
+    greatest = (1_000_000, 1_000_000, 100_000_000, 99_999_999)
     return make_day(
         (0xFFFF_FFFF, 1_000_000, 1_000_000),
         [(name, 1_000_000, 1, name, 1, 1_000_000 - name) for name in names],
         [(*point, 100_000_000) for point in points],
         [(*point, name, 100_000_000 - name) for point in points for name in names[5:21]],
-        [
-            meter(name, 1_000_000, 1_000_000, 100_000_000, 99_999_999, [1_000_000] * 4, [2_400_000_000] * 2)
-            for name in names
-        ],
+        [meter(name, *greatest, [1_000_000] * 4, [2_400_000_000] * 2) for name in names],
     )
 
 

@@ -281,8 +281,9 @@ class Order(RuleTest):
             self.refused(4, 0, write_day, make_day(shippers=[row]))
 
     def test_within_a_field(self):
-        self.refused(3, 40, read_day, file_of(HEAD_FIELD, (SHIPPER, SHIPPERS[1]), (SHIPPER, self.BEYOND)))
-        self.refused(5, 40, read_day, file_of(HEAD_FIELD, (SHIPPER, SHIPPERS[1]), (SHIPPER, self.NO_MDQ)))
+        for number, row in ((3, self.BEYOND), (5, self.NO_MDQ)):
+            file = file_of(HEAD_FIELD, (SHIPPER, SHIPPERS[1]), (SHIPPER, row))
+            self.refused(number, 40, read_day, file)
 
     def test_first_field(self):
         file = file_of(HEAD_FIELD, (SHIPPER, self.NO_MDQ), (SHIPPER, self.BEYOND))

@@ -94,7 +94,7 @@ class Listings(unittest.TestCase):
     def test_refused_rates(self):
         refused = ("", "-1", "+1", " 1", "1 ", "1_0", "1.0", "1e3", "x", "٣", "100000001", "9" * 5_000)
         for word in refused:
-            self.prints("REFUSED 3 0\n", "charges", [word])
+            self.prints("REFUSED 3 0\n", "charges", [word], SMALL)
         self.prints("REFUSED 3 0\n", "charges", ["1", "2"])
         self.prints("REFUSED 3 0\n", "charges", ["x"], b"")
 
