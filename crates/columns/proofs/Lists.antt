@@ -101,6 +101,17 @@ filling-past f row lent list F h i k = ap (λ m. col m i) (F .front) ∙ past-se
 pub take-sets : (n : ℕ) (f : ℕ → ℕ) (l : List ℕ) → n ≤ length l → take n (sets l 0 (listed n f)) ≡ listed n f
 take-sets n f l h = ap (take n) (sets-front n f l h) ∙ take-at (listed n f) (drop n l) n (length-listed n f)
 
+-- ---- the part that is filled, as a list of its own
+module _ (n : ℕ) (f : ℕ → ℕ) (lent made : List ℕ) (room : n ≤ length lent) (is : made ≡ sets lent 0 (listed n f)) where
+  pub made-part : take n made ≡ listed n f
+  made-part = ap (take n) is ∙ take-sets n f lent room
+
+  pub made-long : n ≡ length (take n made)
+  made-long = sym (ap length made-part ∙ length-listed n f)
+
+  pub made-col : ((i : ℕ) → n ≤ i → f i ≡ 0) → col (take n made) ≡ f
+  made-col zeros = ap col made-part ∙ col-whole n f zeros
+
 -- the rows written last stand
 pub sets-again : (n : ℕ) (f g : ℕ → ℕ) (l : List ℕ) → n ≤ length l → sets (sets l 0 (listed n f)) 0 (listed n g) ≡ sets l 0 (listed n g)
 sets-again n f g l h =

@@ -7,7 +7,7 @@ use lib.ListN.{length, take, List·getD-eq-default}
 use lib.Seq.{sets}
 use Rattle.columns.specs.Column.{col, listed}
 use Rattle.columns.specs.Sum.{sum}
-use Rattle.columns.proofs.Lists.{length-listed, col-listed, col-whole, listed-same, take-sets}
+use Rattle.columns.proofs.Lists.{col-listed, listed-same, made-part, made-long, made-col}
 use Rattle.sharing.specs.Round.{level, shares}
 use Rattle.sharing.specs.Chain.{unmet, after}
 use Rattle.rounds.specs.declared.Given.{Given}
@@ -32,20 +32,17 @@ module _ (S : Needed) where
   abbrev needs : List ℕ
   needs = take (length ws) made
 
-  needs-are : needs ≡ listed (length ws) (unmet (col qs) (col had))
-  needs-are =
-      ap (take (length ws)) (is ∙ ap (λ n. sets lent 0 (listed n (unmet (col qs) (col had)))) (sym (ready .rows .same)))
-      ∙ take-sets (length ws) (unmet (col qs) (col had)) lent room
+  made-needs : made ≡ sets lent 0 (listed (length ws) (unmet (col qs) (col had)))
+  made-needs = is ∙ ap (λ n. sets lent 0 (listed n (unmet (col qs) (col had)))) (sym (ready .rows .same))
 
   -- what is unmet is zero past the rows, whatever stands there of what they had
   needs-whole : col needs ≡ unmet (col qs) (col had)
   needs-whole =
-      ap col needs-are
-      ∙ col-whole (length ws) (unmet (col qs) (col had))
+      made-col (length ws) (unmet (col qs) (col had)) lent made room made-needs
       (λ i h. omega (arith, List·getD-eq-default qs 0 {n = i} (omega (arith, ready .rows .same))))
 
   pub needs-long : length ws ≡ length needs
-  needs-long = sym (ap length needs-are ∙ length-listed (length ws) (unmet (col qs) (col had)))
+  needs-long = made-long (length ws) (unmet (col qs) (col had)) lent made room made-needs
 
   pub next-ready : (room : ℕ) → length ws ≤ room → Ready c ws needs room
   next-ready room h =
@@ -83,12 +80,11 @@ module _ (S : Further) where
   more-is : more ≡ listed (length ws) further
   unfolding further
   more-is =
-      ap (take (length ws)) (held .leaves)
-      ∙ take-sets (length ws) (shares (length ws) (col ws) (col (needs (S .needed))) c) lent room
+      made-part (length ws) (shares (length ws) (col ws) (col (needs (S .needed))) c) lent shared room (held .leaves)
       ∙ ap (λ f. listed (length ws) (shares (length ws) (col ws) f c)) (needs-whole (S .needed))
 
   pub more-long : length ws ≡ length more
-  more-long = sym (ap length more-is ∙ length-listed (length ws) further)
+  more-long = made-long (length ws) (shares (length ws) (col ws) (col (needs (S .needed))) c) lent shared room (held .leaves)
 
   more-at : (i : ℕ) → i < length ws → col more i ≡ further i
   more-at i l = ap (λ m. col m i) more-is ∙ col-listed (length ws) further i l

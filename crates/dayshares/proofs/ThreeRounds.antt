@@ -7,7 +7,7 @@ use lib.ListN.{length, take, List·getD-eq-default}
 use lib.Seq.{sets}
 use Rattle.columns.specs.Column.{col, listed}
 use Rattle.columns.specs.Sum.{sum}
-use Rattle.columns.proofs.Lists.{length-listed, col-whole, take-sets}
+use Rattle.columns.proofs.Lists.{made-long, made-col}
 use Rattle.units.specs.Bound.{most-capacity}
 use Rattle.sharing.specs.Round.{level, shares}
 use Rattle.sharing.specs.Chain.{unmet}
@@ -52,9 +52,6 @@ module _ (S : Start) where
         fits = omega (arith, split .same, ready .fits);
       }
 
-  compressor-whole : col (listed (length ms) (compressor-mdq (F S))) ≡ compressor-mdq (F S)
-  compressor-whole = col-whole (length ms) (compressor-mdq (F S)) (λ i h. omega (arith, List·getD-eq-default ms 0 {n = i} h))
-
   one-le : (i : ℕ) → given-one (F S) i ≤ col qs i
   unfolding given-one
   one-le i = omega arith
@@ -75,11 +72,13 @@ module _ (S : Made) where
   open Made S using (zeros, made, room, is)
   open Start (S .start) using (ms)
 
-  made-is : take (length ms) made ≡ listed (length ms) (compressor-mdq (F (S .start)))
-  made-is = ap (take (length ms)) is ∙ take-sets (length ms) (compressor-mdq (F (S .start))) zeros room
-
   pub compressor-long : length ms ≡ length (take (length ms) made)
-  compressor-long = sym (ap length made-is ∙ length-listed (length ms) (compressor-mdq (F (S .start))))
+  compressor-long = made-long (length ms) (compressor-mdq (F (S .start))) zeros made room is
+
+  compressor-made : col (take (length ms) made) ≡ compressor-mdq (F (S .start))
+  compressor-made =
+      made-col (length ms) (compressor-mdq (F (S .start))) zeros made room is
+      (λ i h. omega (arith, List·getD-eq-default ms 0 {n = i} h))
 
 -- ---- round one is held
 pub record OneHeld : Type 0 where
@@ -114,7 +113,7 @@ module _ (S : OneHeld) where
         weights-long = sym (compressor-long (S .made));
         needs-long = sym (ready .rows .same);
         fits = ready .fits;
-        weights = ap col (made-is (S .made)) ∙ compressor-whole (S .made .start);
+        weights = compressor-made (S .made);
         front = rw (split .same) at (held .leaves);
       }
 
