@@ -9,7 +9,7 @@ use native.Mathlib.Omega.{arith, by-contra}
 use borrow.Author.Tests.{leb-true, leb-false, le-leb}
 use lib.Dec.{leb}
 use Rattle.columns.specs.Sum.{sum}
-use Rattle.columns.proofs.Sums.{sum-mono, sum-add, sum-scale, sum-same, sum-bound, sum-cong}
+use Rattle.columns.proofs.Sums.{sum-mono, sum-add, sum-scale, sum-same, sum-bound}
 use Rattle.sharing.specs.Largest.{largest}
 use Rattle.sharing.specs.Round.{share, total, top, level, shares, Small, Weighted}
 use Rattle.sharing.proofs.Largests.{largest-le, largest-marked, largest-last}
@@ -115,18 +115,3 @@ module _ (n : ℕ) (w : ℕ → ℕ) where
   shortfall q c bw bq weighted i l short =
       ⊎-elim (λ e. omega (arith, share-top (w i) (q i) (level n w q c) e (weighted i l (omega arith)) (bq i l)))
       (λ g. omega (arith, total-step q (level n w q c) bw)) (level-is q c .last)
-
--- ---- columns that agree on the rows have one total and one level
-module _ (n : ℕ) (v w p q : ℕ → ℕ) (ew : (i : ℕ) → i < n → v i ≡ w i) (eq : (i : ℕ) → i < n → p i ≡ q i) where
-  pub total-same : (t : ℕ) → total n v p t ≡ total n w q t
-  total-same t = sum-cong n _ _ (λ i l. rw (ew i l, eq i l))
-
-  pub level-same : (c : ℕ) → level n v p c ≡ level n w q c
-  level-same c = level-one n w q (record {
-    capped = L .capped;
-    fits = omega (arith, total-same (level n v p c), L .fits);
-    last = ⊎-elim (λ e. inl e) (λ g. inr (omega (arith, total-same (level n v p c + 1)))) (L .last);
-  })
-    where
-      L : IsLevel n v p c (level n v p c)
-      L = level-is n v p c
