@@ -34,10 +34,22 @@ pub record Laying (bytes lent : List ℕ) (at : ℕ) (ahead list : List ℕ) (fr
   pub finishes : sets list from ahead ≡ sets lent at bytes
   pub long : length list ≡ length lent
 
+pub laying-none : {bytes lent : List ℕ} {at : ℕ} → Laying bytes lent at bytes lent at
+laying-none = record { finishes = refl; long = refl }
+
+-- of what is ahead the last byte may be laid next
+pub laying-last : {bytes lent ahead list after : List ℕ} {at : ℕ} (byte place : ℕ) → place ≡ length ahead
+    → Laying bytes lent at (ahead ++ (byte ∷ [])) list at → after ≡ set list (at + place) byte → Laying bytes lent at ahead after at
+laying-last {ahead = ahead} {list = list} {at = at} byte place here L e =
+    record {
+      finishes = rw (e, here) (sets-back list at byte ahead ∙ L .finishes);
+      long = ap length e ∙ length-set list (at + place) byte ∙ L .long;
+    }
+
 -- ---- a word, from its first byte on
 module _ (bytes lent : List ℕ) (at : ℕ) where
   pub word-none : Laying bytes lent at bytes lent (at + 0)
-  word-none = record { finishes = rw add-zero; long = refl }
+  word-none = rw add-zero laying-none
 
   module _ (place : ℕ) {list : List ℕ} (L : Laying bytes lent at (drop place bytes) list (at + place)) where
     pub word-next : {after : List ℕ} → place < length bytes → after ≡ set list (at + place) (col bytes place)
@@ -52,20 +64,10 @@ module _ (bytes lent : List ℕ) (at : ℕ) where
     word-all h = rw (drop-of-length-le bytes h) at (L .finishes)
 
 -- ---- a number, from its last digit on
-module _ (number : ℕ) (lent : List ℕ) (at : ℕ) where
-  pub number-none : Laying (decimal number) lent at (decimal number) lent at
-  number-none = record { finishes = refl; long = refl }
+module _ (number : ℕ) (lent : List ℕ) (at rest : ℕ) {list after : List ℕ} (L : Laying (decimal number) lent at (decimal rest) list at) where
+  pub number-next : (place : ℕ) → 9 < rest → place + 1 ≡ length (decimal rest) → after ≡ set list (at + place) (last-digit rest)
+      → Laying (decimal number) lent at (decimal (rest / 10)) after at
+  number-next place l last e = laying-last (last-digit rest) place (omega (arith, length-more rest l)) (rw (decimal-more rest l) at L) e
 
-  module _ (rest : ℕ) {list after : List ℕ} (L : Laying (decimal number) lent at (decimal rest) list at) where
-    pub number-next : (place : ℕ) → 9 < rest → place + 1 ≡ length (decimal rest) → after ≡ set list (at + place) (last-digit rest)
-        → Laying (decimal number) lent at (decimal (rest / 10)) after at
-    number-next place l last e =
-        let here : place ≡ length (decimal (rest / 10)) = omega (arith, length-more rest l) in
-        record {
-          finishes =
-              rw (e, here) (sets-back list at (last-digit rest) (decimal (rest / 10)) ∙ rw (decimal-more rest l) at (L .finishes));
-          long = ap length e ∙ length-set list (at + place) (last-digit rest) ∙ L .long;
-        }
-
-    pub number-all : rest ≤ 9 → after ≡ set list (at + 0) (last-digit rest) → after ≡ sets lent at (decimal number)
-    number-all h e = e ∙ rw add-zero (rw (decimal-one rest h) at (L .finishes))
+  pub number-all : rest ≤ 9 → after ≡ set list (at + 0) (last-digit rest) → after ≡ sets lent at (decimal number)
+  number-all h e = e ∙ rw add-zero (rw (decimal-one rest h) at (L .finishes))

@@ -25,7 +25,7 @@ fn last_digit(number: u64) -> u8
 }
 
 // Lays a byte so many places past `at`. The place is compared with what the block has past `at`, for the sum may not fit.
-fn put_byte(byte: u8, text: &mut [u8], at: usize, place: usize)
+pub fn put_byte(byte: u8, text: &mut [u8], at: usize, place: usize)
     ensures { λ _. ⌜ now (text .exit) ≡ set (now (text .entry)) (at + place) byte ⌝ }
 {
     if text.len() <= at {

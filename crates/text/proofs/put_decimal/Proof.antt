@@ -6,7 +6,7 @@ use borrow.Author.Needs.{needs}
 use lib.ListN.{length as count}
 use Rattle.text.specs.Text.{decimal}
 use Rattle.text.proofs.Decimals.{some-byte, length-more}
-use Rattle.text.proofs.Laying.{Laying, number-none, number-next, number-all}
+use Rattle.text.proofs.Laying.{Laying, laying-none, number-next, number-all}
 use Rattle.text.proofs.put_decimal.Statement.{statement}
 use Rattle.text.proofs.put_decimal.Tie as tie
 
@@ -24,7 +24,7 @@ sub-place : tie.Need-sub-place Inv-loop μ-loop
 sub-place c = omega (arith, c .decimal-length .ensures, some-byte (c .before .before .args .number))
 
 loop-holds : tie.Need-loop-holds Inv-loop μ-loop
-loop-holds c = (omega (arith, c .decimal-length .ensures, some-byte (c .before .before .args .number)), number-none _ _ _)
+loop-holds c = (omega (arith, c .decimal-length .ensures, some-byte (c .before .before .args .number)), laying-none)
 
 last-digit-requires : tie.Need-last-digit-requires Inv-loop μ-loop
 last-digit-requires c κs = search needs

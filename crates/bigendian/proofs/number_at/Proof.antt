@@ -1,0 +1,101 @@
+-- The number is what the bytes before `place` spell, and has room for a byte more while fewer than four are read.
+use mathlib.Core.Path.{_≡_}
+use Prim.Native.Nat.{_+_, _-_, _≤_}
+use native.Mathlib.Omega.{arith}
+use borrow.Author.Needs.{needs}
+use lib.ListN.{take, drop}
+use Rattle.bigendian.specs.Number.{value}
+use Rattle.bigendian.proofs.Reading.{Turn, reading-none, reading-next, reading-room, reading-all, reading-past}
+use Rattle.bigendian.proofs.number_at.Statement.{statement}
+use Rattle.bigendian.proofs.number_at.Tie as tie
+
+abbrev Inv-loop : tie.InvT-loop
+Inv-loop file at width count number₀ place₀ number place = (place ≤ count) × (number ≡ value (take place (drop at file)))
+
+abbrev μ-loop : tie.MeasureT-loop
+μ-loop file at width count number₀ place₀ number place = count - place
+
+abbrev turn : tie.In-loop Inv-loop μ-loop → Turn
+turn c =
+    let now = c .before in
+    let cut = now .before in
+    let known = cut .before .before .before in
+    record {
+      file = known .before .args .file .now;
+      at = known .before .args .at;
+      place = now .loop .place;
+      number = now .loop .number;
+      are = λ i. known .shared-slice-known .given i .fits;
+      there = omega (arith, cut .smaller2 .ensures);
+      few = omega (arith, cut .smaller2 .ensures, cut .before .smaller .ensures);
+      read = now .loop .inv .1;
+    }
+
+returns : tie.Need-returns Inv-loop μ-loop
+returns c = let args = c .before .before .args in reading-past (args .file .now) (args .at) (args .width) (c .if1 .taken)
+
+smaller-requires : tie.Need-smaller-requires Inv-loop μ-loop
+smaller-requires c κs = search needs
+
+sub-smaller : tie.Need-sub-smaller Inv-loop μ-loop
+sub-smaller c = search needs
+
+smaller-requires-2 : tie.Need-smaller-requires-2 Inv-loop μ-loop
+smaller-requires-2 c κs = search needs
+
+loop-holds : tie.Need-loop-holds Inv-loop μ-loop
+loop-holds c =
+    let args = c .before .before .before .before .args in
+    (omega arith, reading-none (args .file .now) (args .at))
+
+mul-number : tie.Need-mul-number Inv-loop μ-loop
+mul-number c = omega (arith, reading-room (turn c))
+
+add-number : tie.Need-add-number Inv-loop μ-loop
+add-number c = search needs
+
+shared-slice-read-number : tie.Need-shared-slice-read-number Inv-loop μ-loop
+shared-slice-read-number c = search needs
+
+cast-number : tie.Need-cast-number Inv-loop μ-loop
+cast-number c = let t = turn (c .before) in omega (arith, t .are (t .at + t .place))
+
+add-number-2 : tie.Need-add-number-2 Inv-loop μ-loop
+add-number-2 c = omega (arith, reading-room (turn (c .before)))
+
+add-place : tie.Need-add-place Inv-loop μ-loop
+add-place c = search needs
+
+loop-less : tie.Need-loop-less Inv-loop μ-loop
+loop-less c = search needs
+
+loop-again : tie.Need-loop-again Inv-loop μ-loop
+loop-again c = (omega arith, reading-next (turn (c .before)))
+
+returns-2 : tie.Need-returns-2 Inv-loop μ-loop
+returns-2 c =
+    let cut = c .before .before in
+    let args = cut .before .before .before .before .args in
+    reading-all (args .file .now) (args .at) (args .width) _ (c .before .loop .place) _
+    (cut .before .smaller .ensures) (omega (arith, cut .smaller2 .ensures)) (c .before .loop .inv .1)
+
+pub number-at-spec : {M : Type 1} → statement M
+number-at-spec =
+    tie.close
+    (tie.spec
+    Inv-loop
+    μ-loop
+    returns
+    smaller-requires
+    sub-smaller
+    smaller-requires-2
+    loop-holds
+    mul-number
+    add-number
+    shared-slice-read-number
+    cast-number
+    add-number-2
+    add-place
+    loop-less
+    loop-again
+    returns-2)
