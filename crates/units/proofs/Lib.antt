@@ -1,3 +1,4 @@
 pub mod Aboves
 pub mod Checks
 pub mod Determined
+pub mod Numbered
