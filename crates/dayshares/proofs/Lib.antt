@@ -11,4 +11,3 @@ pub mod Accepting
 pub mod Answers
 pub mod Determined
 pub mod Promises
-pub mod Figures

@@ -7,4 +7,3 @@ pub mod Answers
 pub mod Greatest
 pub mod WholeDay
 pub mod Promises
-pub mod Figures

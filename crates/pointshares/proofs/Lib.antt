@@ -5,4 +5,3 @@ pub mod Accepting
 pub mod Answers
 pub mod Determined
 pub mod Spending
-pub mod Figures

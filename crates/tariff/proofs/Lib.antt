@@ -2,4 +2,3 @@ pub mod HalfUps
 pub mod Products
 pub mod Charged
 pub mod Escalated
-pub mod Figures

@@ -6,4 +6,3 @@ pub mod Answers
 pub mod Determined
 pub mod Spending
 pub mod Heaters
-pub mod Figures

@@ -1,0 +1,37 @@
+-- Once the days' levels are known, every line computes.
+use Rattle.columns.specs.Column.{listed}
+use Rattle.columns.specs.Sum.{sum}
+use Rattle.columns.specs.First.{first-from}
+use Rattle.units.specs.Refusals.{_then_, keep, clear}
+use Rattle.sharing.specs.Chain.{after}
+use Rattle.dayshares.specs.Firm.{given-one, given-two, given-firm}
+use Rattle.dayshares.specs.Class.{class-given}
+use Rattle.pointshares.specs.Share.{share}
+use Rattle.usegas.specs.Fuel.{check}
+use Rattle.metered.specs.Hours.{rows-check}
+use Rattle.metered.specs.Singles.{mdqs-check, side-check, sides-check}
+use Rattle.overruns.specs.TwelveHourly.{period-limit}
+use Rattle.overruns.specs.Day.{day-check}
+use Rattle.tariff.specs.HalfUp.{half-up}
+use Rattle.tariff.specs.Charges.{overrun-check, variation-check}
+use Rattle.tariff.specs.Escalation.{escalation-check}
+use Rattle.figures.specs.Line.{given, said}
+use Rattle.figures.specs.Table.{Figures}
+use Rattle.figures.proofs.Levels.{
+  first-one,
+  first-two,
+  first-three,
+  second-one,
+  second-two,
+  second-three,
+  third-one,
+  third-two,
+  third-three,
+  third-auction,
+}
+
+pub figures : Figures
+unfolding given said listed sum first-from _then_ keep clear
+    given-one given-two given-firm after class-given share check
+    period-limit mdqs-check side-check sides-check rows-check day-check half-up overrun-check variation-check escalation-check
+figures = rw (first-three, first-two, first-one, second-three, second-two, second-one, third-three, third-two, third-one, third-auction)

@@ -1,0 +1,4 @@
+pub mod Line
+pub mod Units
+pub mod Days
+pub mod Table
