@@ -44,7 +44,7 @@ bytes-last (suc w) n =
     ap₂ (λ k rest. k % 256 ∷ rest) (rw pow-succ' (sym (div-div-eq-div-mul n 256 (256 ^ w)))) (bytes-last w n)
 
 -- what lies above the width leaves no trace
-bytes-above : (w k n : ℕ) → bytes w (k * 256 ^ w + n) ≡ bytes w n
+pub bytes-above : (w k n : ℕ) → bytes w (k * 256 ^ w + n) ≡ bytes w n
 unfolding bytes
 bytes-above zero k n = refl
 bytes-above (suc w) k n =

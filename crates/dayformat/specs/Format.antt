@@ -1,0 +1,109 @@
+-- 01, "The day file": fields of a one-byte tag, a two-byte length, a body.
+use mathlib.Core.Bool.{cond}
+use mathlib.Core.List.{List, [], _∷_}
+use Prim.Native.Nat.{ℕ, _+_, _-_}
+use lib.Dec.{ltb}
+use Rattle.columns.specs.Column.{listed}
+use Rattle.units.specs.Bound.{most-gigajoules, most-hour, most-backhaul}
+use Rattle.bigendian.specs.Row.{size}
+use Rattle.dayformat.specs.declared.form.Tag.{Tag}
+use Rattle.dayformat.specs.declared.form.Tag.the-variants.{Head, Shipper, Point, Entry, Meter}
+use Rattle.dayformat.specs.declared.form.Column.{Column}
+use Rattle.dayformat.specs.declared.form.Form.{Form}
+
+-- ---- the kinds of number: how many bytes spell it, and its bounds
+abbrev pub none : Column
+none = record { width = 0; low = 0; high = 0 }
+
+-- 0 receipt, 1 delivery
+abbrev pub side : Column
+side = record { width = 1; low = 0; high = 1 }
+
+-- a shipper or a point
+abbrev pub name : Column
+name = record { width = 2; low = 1; high = 65_535 }
+
+-- the day number may be any u32
+abbrev pub any-number : Column
+any-number = record { width = 4; low = 0; high = 4_294_967_295 }
+
+abbrev pub gigajoules : Column
+gigajoules = record { width = 4; low = 0; high = most-gigajoules }
+
+-- a metered hour, an hourly point capacity, a reserved entitlement
+abbrev pub hour : Column
+hour = record { width = 4; low = 0; high = most-hour }
+
+-- backhaul metered over a day
+abbrev pub backhaul : Column
+backhaul = record { width = 4; low = 0; high = most-backhaul }
+
+-- ---- a body is so many numbers of one kind, then so many of the next
+pub record Several : Type 0 where
+  pub many : ℕ
+  pub kind : Column
+
+infix 70 _of_
+abbrev pub _of_ : ℕ → Column → Several
+many of kind = record { many = many; kind = kind }
+
+abbrev pub body : Tag → List Several
+-- day, free flow capacity, compressor capacity
+body Head = 1 of any-number ∷ 2 of gigajoules ∷ []
+-- shipper, firm MDQ, auction MDQ, firm, auction and lower tier schedules
+body Shipper = 1 of name ∷ 5 of gigajoules ∷ []
+-- side, point, capacity
+body Point = 1 of side ∷ 1 of name ∷ 1 of hour ∷ []
+-- side, point, shipper, RE
+body Entry = 1 of side ∷ 2 of name ∷ 1 of hour ∷ []
+-- shipper, P, M, 11 delivered hours of yesterday, 24 delivered, 24 received, four schedules, backhaul metered receipt and delivery
+body Meter = 1 of name ∷ 2 of gigajoules ∷ (11 + 24 + 24) of hour ∷ 4 of gigajoules ∷ 2 of backhaul ∷ []
+
+-- the kind of a number, counted from 0
+unfoldable pub column-in : List Several → ℕ → Column
+column-in [] place = none
+column-in (several ∷ rest) place = cond (ltb place (several .many)) (several .kind) (column-in rest (place - several .many))
+
+abbrev pub numbers-of : List Several → ℕ
+numbers-of [] = 0
+numbers-of (several ∷ rest) = several .many + numbers-of rest
+
+-- the widths of its numbers
+abbrev pub widths : Tag → List ℕ
+widths tag = listed (numbers-of (body tag)) (λ place. column-in (body tag) place .width)
+
+-- the tag's byte, how many fields there may be, and how many of the first numbers are the key
+abbrev pub tag-byte : Tag → ℕ
+tag-byte Head = 1
+tag-byte Shipper = 2
+tag-byte Point = 3
+tag-byte Entry = 4
+tag-byte Meter = 5
+
+abbrev pub most : Tag → ℕ
+most Head = 1
+most Shipper = 64
+most Point = 32
+most Entry = 512
+most Meter = 64
+
+abbrev pub key : Tag → ℕ
+key Head = 0
+key Shipper = 1
+key Point = 2
+key Entry = 3
+key Meter = 1
+
+-- the tag, two bytes of length, the body
+abbrev pub field-size : Tag → ℕ
+field-size tag = 3 + size (widths tag)
+
+abbrev pub form : Tag → Form
+form tag =
+    record {
+      byte = tag-byte tag;
+      columns = numbers-of (body tag);
+      size = size (widths tag);
+      most = most tag;
+      key = key tag;
+    }

@@ -1,0 +1,200 @@
+// What a field of each tag holds.
+ghost use mathlib.Core.Path.{_≡_};
+ghost use Rattle.dayformat.specs.Format.{body, column-in, form};
+
+// The tags, 1 to 5 in this order.
+pub enum Tag {
+    Head,
+    Shipper,
+    Point,
+    Entry,
+    Meter,
+}
+
+// A number of a field: how many bytes spell it, and its bounds.
+pub struct Column {
+    pub width: usize,
+    pub low: usize,
+    pub high: usize,
+}
+
+// A tag's byte; how many numbers its body holds, in how many bytes; how many fields there may be; how many first numbers are the key.
+pub struct Form {
+    pub byte: u8,
+    pub columns: usize,
+    pub size: usize,
+    pub most: u32,
+    pub key: usize,
+}
+
+const NONE: Column = Column {
+    width: 0,
+    low: 0,
+    high: 0,
+};
+
+const SIDE: Column = Column {
+    width: 1,
+    low: 0,
+    high: 1,
+};
+
+const NAME: Column = Column {
+    width: 2,
+    low: 1,
+    high: 65_535,
+};
+
+const NUMBER: Column = Column {
+    width: 4,
+    low: 0,
+    high: 4_294_967_295,
+};
+
+const GIGAJOULES: Column = Column {
+    width: 4,
+    low: 0,
+    high: 1_000_000,
+};
+
+const HOUR: Column = Column {
+    width: 4,
+    low: 0,
+    high: 100_000_000,
+};
+
+const BACKHAUL: Column = Column {
+    width: 4,
+    low: 0,
+    high: 2_400_000_000,
+};
+
+pub fn form_of(tag: Tag) -> Form
+    ensures { λ r. ⌜ r ≡ form tag ⌝ }
+{
+    match tag {
+        Tag::Head => Form {
+            byte: 1,
+            columns: 3,
+            size: 12,
+            most: 1,
+            key: 0,
+        },
+        Tag::Shipper => Form {
+            byte: 2,
+            columns: 6,
+            size: 22,
+            most: 64,
+            key: 1,
+        },
+        Tag::Point => Form {
+            byte: 3,
+            columns: 3,
+            size: 7,
+            most: 32,
+            key: 2,
+        },
+        Tag::Entry => Form {
+            byte: 4,
+            columns: 4,
+            size: 9,
+            most: 512,
+            key: 3,
+        },
+        Tag::Meter => Form {
+            byte: 5,
+            columns: 68,
+            size: 270,
+            most: 64,
+            key: 1,
+        },
+    }
+}
+
+// The column of a body's number, counted from 0.
+pub fn column_at(tag: Tag, place: usize) -> Column
+    ensures { λ r. ⌜ r ≡ column-in (body tag) place ⌝ }
+{
+    match tag {
+        Tag::Head => head_column(place),
+        Tag::Shipper => shipper_column(place),
+        Tag::Point => point_column(place),
+        Tag::Entry => entry_column(place),
+        Tag::Meter => meter_column(place),
+    }
+}
+
+fn head_column(place: usize) -> Column
+    ensures { λ r. ⌜ r ≡ column-in (body Tag.Head) place ⌝ }
+{
+    if place < 1 {
+        return NUMBER;
+    }
+    if place < 3 {
+        return GIGAJOULES;
+    }
+    NONE
+}
+
+fn shipper_column(place: usize) -> Column
+    ensures { λ r. ⌜ r ≡ column-in (body Tag.Shipper) place ⌝ }
+{
+    if place < 1 {
+        return NAME;
+    }
+    if place < 6 {
+        return GIGAJOULES;
+    }
+    NONE
+}
+
+fn point_column(place: usize) -> Column
+    ensures { λ r. ⌜ r ≡ column-in (body Tag.Point) place ⌝ }
+{
+    if place < 1 {
+        return SIDE;
+    }
+    if place < 2 {
+        return NAME;
+    }
+    if place < 3 {
+        return HOUR;
+    }
+    NONE
+}
+
+fn entry_column(place: usize) -> Column
+    ensures { λ r. ⌜ r ≡ column-in (body Tag.Entry) place ⌝ }
+{
+    if place < 1 {
+        return SIDE;
+    }
+    if place < 3 {
+        return NAME;
+    }
+    if place < 4 {
+        return HOUR;
+    }
+    NONE
+}
+
+fn meter_column(place: usize) -> Column
+    ensures { λ r. ⌜ r ≡ column-in (body Tag.Meter) place ⌝ }
+{
+    if place < 1 {
+        return NAME;
+    }
+    if place < 3 {
+        return GIGAJOULES;
+    }
+    if place < 62 {
+        return HOUR;
+    }
+    if place < 66 {
+        return GIGAJOULES;
+    }
+    if place < 68 {
+        return BACKHAUL;
+    }
+    NONE
+}

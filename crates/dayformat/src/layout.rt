@@ -1,0 +1,85 @@
+// How many fields of each tag a day has, and what follows from it: where a row stands among the day's numbers, how many numbers and bytes there are.
+use crate::form::Tag;
+use crate::form::form_of;
+ghost use mathlib.Core.Path.{_≡_};
+ghost use Prim.Native.Nat.{_^_, _<_};
+ghost use Rattle.dayformat.specs.Layout.{count, with-count, table-start, row-start, numbers-in, file-size};
+
+// The fields of tags 2 to 5.
+pub struct Counts {
+    pub shippers: u32,
+    pub points: u32,
+    pub entries: u32,
+    pub meters: u32,
+}
+
+// A day has one head.
+pub fn count_of(counts: Counts, tag: Tag) -> u32
+    ensures { λ r. ⌜ r ≡ count counts tag ⌝ }
+{
+    match tag {
+        Tag::Head => 1,
+        Tag::Shipper => counts.shippers,
+        Tag::Point => counts.points,
+        Tag::Entry => counts.entries,
+        Tag::Meter => counts.meters,
+    }
+}
+
+impl Counts {
+    // The counts with so many rows of a tag.
+    pub fn with(self, tag: Tag, rows: u32) -> Self
+        ensures { λ r. ⌜ r ≡ with-count self tag rows ⌝ }
+    {
+        let mut counts = self;
+        match tag {
+            Tag::Head => {}
+            Tag::Shipper => counts.shippers = rows,
+            Tag::Point => counts.points = rows,
+            Tag::Entry => counts.entries = rows,
+            Tag::Meter => counts.meters = rows,
+        }
+        counts
+    }
+}
+
+// Where a table's first row stands among the day's numbers.
+fn table_start(counts: Counts, tag: Tag) -> usize
+    ensures { λ r. ⌜ (r ≡ table-start counts tag) × (r < 2 ^ 38) ⌝ }
+{
+    match tag {
+        Tag::Head => 0,
+        Tag::Shipper => 0,
+        Tag::Point => counts.shippers as usize * 6,
+        Tag::Entry => counts.shippers as usize * 6 + counts.points as usize * 3,
+        Tag::Meter => counts.shippers as usize * 6
+            + counts.points as usize * 3
+            + counts.entries as usize * 4,
+    }
+}
+
+// Where a row stands.
+pub fn row_place(counts: Counts, tag: Tag, row: u32) -> usize
+    ensures { λ r. ⌜ (r ≡ row-start counts tag row) × (r < 2 ^ 40) ⌝ }
+{
+    let start = table_start(counts, tag);
+    start + row as usize * form_of(tag).columns
+}
+
+// How many numbers a day has.
+pub fn numbers_of(counts: Counts) -> usize
+    ensures { λ r. ⌜ (r ≡ numbers-in counts) × (r < 2 ^ 40) ⌝ }
+{
+    row_place(counts, Tag::Meter, counts.meters)
+}
+
+// How many bytes its file has.
+pub fn file_size(counts: Counts) -> usize
+    ensures { λ r. ⌜ r ≡ file-size counts ⌝ }
+{
+    15
+        + counts.shippers as usize * 25
+        + counts.points as usize * 10
+        + counts.entries as usize * 12
+        + counts.meters as usize * 273
+}

@@ -1,0 +1,17 @@
+// 01, "The day file": the format as data, and where a day's rows stand.
+mod day;
+mod form;
+mod layout;
+
+pub use day::Day;
+pub use day::Head;
+pub use form::Column;
+pub use form::Form;
+pub use form::Tag;
+pub use form::column_at;
+pub use form::form_of;
+pub use layout::Counts;
+pub use layout::count_of;
+pub use layout::file_size;
+pub use layout::numbers_of;
+pub use layout::row_place;
