@@ -1,0 +1,5 @@
+pub mod Faults
+pub mod Rising
+pub mod Same
+pub mod Searches
+pub mod Within

@@ -1,0 +1,22 @@
+-- Whether a search finds a marked row among n.
+use mathlib.Core.Path.{_≡_}
+use mathlib.Core.Bool.{Bool, true, false}
+use Prim.Native.Nat.{ℕ, _≤_, _<_}
+use lib.Dec.{leb, ltb}
+use borrow.Author.Tests.{lt-ltb, le-ltb, le-leb, lt-leb}
+use native.Mathlib.Omega.{arith}
+use Rattle.columns.specs.First.{first}
+use Rattle.columns.proofs.Firsts.{Searched, stops, ends}
+
+module _ (p : ℕ → Bool) (n row : ℕ) (S : Searched p n row) where
+  pub found : row < n → p row ≡ true → ltb (first n p) n ≡ true
+  found l e = lt-ltb (first n p) n (omega (arith, stops p n row S l e))
+
+  pub not-clear : row < n → p row ≡ true → leb n (first n p) ≡ false
+  not-clear l e = lt-leb n (first n p) (omega (arith, stops p n row S l e))
+
+  pub missing : n ≤ row → ltb (first n p) n ≡ false
+  missing l = le-ltb (first n p) n (omega (arith, ends p n row S l))
+
+  pub clear : n ≤ row → leb n (first n p) ≡ true
+  clear l = le-leb n (first n p) (omega (arith, ends p n row S l))

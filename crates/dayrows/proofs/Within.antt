@@ -1,0 +1,43 @@
+-- A number within its bounds.
+use mathlib.Core.Path.{_≡_, refl}
+use mathlib.Core.Bool.{Bool, true, false, cond, not}
+use Prim.Native.Nat.{ℕ, _+_, _≤_, _<_}
+use borrow.Author.Tests.{leb-true, ltb-true, not-false, le-leb, lt-leb}
+use native.Mathlib.Omega.{arith}
+use Rattle.columns.proofs.Firsts.{first-passed}
+use Rattle.dayformat.specs.declared.form.Tag.{Tag}
+use Rattle.dayformat.specs.declared.form.Column.{Column}
+use Rattle.dayformat.specs.declared.layout.Counts.{Counts}
+use Rattle.dayformat.specs.Format.{body, column-in, form}
+use Rattle.dayformat.specs.Layout.{row-start}
+use Rattle.dayrows.specs.declared.Source.{Source}
+use Rattle.dayrows.specs.declared.Test.the-variants.{Bounds}
+use Rattle.dayrows.specs.Test.{within, bounded, passes}
+
+-- a test asked after another passes where both do
+pub both : (t x : Bool) → cond t x false ≡ true → (t ≡ true) × (x ≡ true)
+both true x e = (refl, e)
+both false x e = let z : _≡_ {A = ℕ} 0 1 = cc in absurd (omega arith)
+
+module _ (column : Column) (number : ℕ) where
+  pub below-low : number < column .low → not (within column number) ≡ true
+  below-low l = rw (lt-leb (column .low) number l)
+
+  pub above-high : column .low ≤ number → column .high < number → not (within column number) ≡ true
+  above-high l h = rw (le-leb (column .low) number l, lt-leb number (column .high) h)
+
+  pub between : column .low ≤ number → number ≤ column .high → not (within column number) ≡ false
+  between l h = rw (le-leb (column .low) number l, le-leb number (column .high) h)
+
+  pub within-bounds : within column number ≡ true → (column .low ≤ number) × (number ≤ column .high)
+  within-bounds e = let parts = both _ _ e in (leb-true _ _ (parts .0), leb-true _ _ (parts .1))
+
+-- the row is not one too many, and each of its numbers is within its bounds
+pub passes-bounded : (source : Source) (c : Counts) (f : ℕ → ℕ) (tag : Tag) (row : ℕ) → passes Bounds source c f tag row ≡ true
+    → (row < form tag .most)
+    × ((place : ℕ) → place < form tag .columns → within (column-in (body tag) place) (f (row-start c tag row + place)) ≡ true)
+unfolding passes bounded
+passes-bounded source c f tag row e =
+    let few = both _ _ e in
+    let inside = leb-true _ _ (both _ _ (few .1) .0) in
+    (ltb-true _ _ (few .0), λ place l. not-false _ (first-passed _ _ inside place l))

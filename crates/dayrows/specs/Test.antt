@@ -1,0 +1,93 @@
+-- 01, "The day file" and "Refusal numbers": the tests of a row among a day's numbers, for a file and for the writer alike.
+use mathlib.Core.Bool.{Bool, true, false, cond, not}
+use Prim.Native.Nat.{ℕ, zero, suc, _+_}
+use lib.Dec.{leb, ltb, eqb}
+use Rattle.columns.specs.First.{first}
+use Rattle.daytable.specs.Acceptance.{idle}
+use Rattle.dayformat.specs.declared.form.Tag.{Tag}
+use Rattle.dayformat.specs.declared.form.Tag.the-variants.{Head, Shipper, Point, Entry, Meter}
+use Rattle.dayformat.specs.declared.form.Column.{Column}
+use Rattle.dayformat.specs.declared.layout.Counts.{Counts}
+use Rattle.dayformat.specs.Format.{body, column-in, form}
+use Rattle.dayformat.specs.Layout.{count, row-start}
+use Rattle.dayrows.specs.declared.Source.{Source}
+use Rattle.dayrows.specs.declared.Source.the-variants.{File, Side}
+use Rattle.dayrows.specs.declared.Test.{Test}
+use Rattle.dayrows.specs.declared.Test.the-variants.{Bounds, Key, Mdq}
+
+-- ---- 3
+-- a number within its bounds
+abbrev pub within : Column → ℕ → Bool
+within column number = cond (leb (column .low) number) (leb number (column .high)) false
+
+-- every number of the row that begins at a place is within its bounds
+unfoldable pub bounded : (ℕ → ℕ) → Tag → ℕ → Bool
+bounded numbers tag at =
+    leb (form tag .columns) (first (form tag .columns) (λ place. not (within (column-in (body tag) place) (numbers (at + place)))))
+
+-- in a list of one side's entries, an entry of the other side is beyond its bound
+abbrev pub of-side : Source → ℕ → Bool
+of-side File number = true
+of-side (Side side) number = eqb number side
+
+-- ---- 5
+-- the first of so many numbers in which those from one place on differ from those from another
+unfoldable pub difference : (ℕ → ℕ) → ℕ → ℕ → ℕ → ℕ
+difference numbers many one other = first many (λ place. not (eqb (numbers (one + place)) (numbers (other + place))))
+
+-- keys rise strictly: the first number in which a row's key differs from that of the row before is the greater
+unfoldable pub rises : Counts → (ℕ → ℕ) → Tag → ℕ → Bool
+rises counts numbers tag zero = true
+rises counts numbers tag (suc row) =
+    let before = row-start counts tag row in
+    let here = row-start counts tag (suc row) in
+    let place = difference numbers (form tag .key) before here in
+    cond (ltb place (form tag .key)) (ltb (numbers (before + place)) (numbers (here + place))) false
+
+-- some row of the tag has the key that stands at a place
+unfoldable pub lists : Counts → (ℕ → ℕ) → Tag → ℕ → Bool
+lists counts numbers tag at =
+    ltb (first (count counts tag) (λ row. leb (form tag .key) (difference numbers (form tag .key) (row-start counts tag row) at)))
+    (count counts tag)
+
+-- tags 4 and 5 name only shippers and points listed before
+unfoldable pub named : Counts → (ℕ → ℕ) → Tag → ℕ → Bool
+named counts numbers Head at = true
+named counts numbers Shipper at = true
+named counts numbers Point at = true
+named counts numbers Entry at = cond (lists counts numbers Point at) (lists counts numbers Shipper (at + 2)) false
+named counts numbers Meter at = lists counts numbers Shipper at
+
+-- in a list of entries names aren't looked up
+abbrev pub names-known : Source → Counts → (ℕ → ℕ) → Tag → ℕ → Bool
+names-known File counts numbers tag at = named counts numbers tag at
+names-known (Side side) counts numbers tag at = true
+
+-- ---- 4
+-- a firm or auction schedule above zero with that MDQ zero
+unfoldable pub starved : (ℕ → ℕ) → Tag → ℕ → Bool
+starved numbers Head at = false
+starved numbers Shipper at =
+    cond (idle (numbers (at + 1)) (numbers (at + 3))) true (idle (numbers (at + 2)) (numbers (at + 4)))
+starved numbers Point at = false
+starved numbers Entry at = false
+starved numbers Meter at = false
+
+-- ---- the tests in 01's order, and the number of the first that a row fails, 0 for none
+unfoldable pub passes : Test → Source → Counts → (ℕ → ℕ) → Tag → ℕ → Bool
+passes Bounds source counts numbers tag row =
+    let at = row-start counts tag row in
+    cond (ltb row (form tag .most)) (cond (bounded numbers tag at) (of-side source (numbers at)) false) false
+passes Key source counts numbers tag row =
+    cond (rises counts numbers tag row) (names-known source counts numbers tag (row-start counts tag row)) false
+passes Mdq source counts numbers tag row = not (starved numbers tag (row-start counts tag row))
+
+unfoldable pub fault : Source → Counts → (ℕ → ℕ) → Tag → ℕ → ℕ
+fault source counts numbers tag row =
+    cond (passes Bounds source counts numbers tag row)
+    (cond (passes Key source counts numbers tag row) (cond (passes Mdq source counts numbers tag row) 0 4) 5)
+    3
+
+-- the lowest row of a table that fails a test, or the number of rows
+abbrev pub first-failing : Test → Counts → (ℕ → ℕ) → Tag → ℕ
+first-failing test counts numbers tag = first (count counts tag) (λ row. not (passes test File counts numbers tag row))

@@ -1,0 +1,37 @@
+// 4: a firm or auction schedule above zero with that MDQ zero.
+use crate::bounds::number_of;
+use dayformat::Tag;
+ghost use mathlib.Core.Path.{_≡_};
+ghost use Prim.Native.Nat.{_^_, _<_};
+ghost use Rattle.columns.specs.Column.{col};
+ghost use Rattle.daytable.specs.Acceptance.{idle};
+ghost use Rattle.dayrows.specs.Test.{starved};
+
+// A schedule above zero, and its MDQ zero.
+fn is_idle(mdq: usize, schedule: usize) -> bool
+    ensures { λ r. ⌜ r ≡ idle mdq schedule ⌝ }
+{
+    if mdq == 0 {
+        return 0 < schedule;
+    }
+    false
+}
+
+// Whether a shipper's row that begins at a place has a schedule without its MDQ.
+pub fn is_starved(numbers: &[usize], tag: Tag, at: usize) -> bool
+    requires { ⌜ at < 2 ^ 40 ⌝ }
+    ensures { λ r. ⌜ r ≡ starved (col (now (numbers .entry))) tag at ⌝ }
+{
+    match tag {
+        Tag::Head => false,
+        Tag::Shipper => {
+            if is_idle(number_of(numbers, at + 1), number_of(numbers, at + 3)) {
+                return true;
+            }
+            is_idle(number_of(numbers, at + 2), number_of(numbers, at + 4))
+        }
+        Tag::Point => false,
+        Tag::Entry => false,
+        Tag::Meter => false,
+    }
+}
