@@ -17,7 +17,7 @@ use Rattle.units.specs.Refusals.{at-row, _then_, keep, clear, within}
 use Rattle.units.proofs.Aboves.{none-above}
 
 -- a refusal is no acceptance
-no-acceptance : {A : Type 0} {x : Refusal} → Refused x ≡ Accepted → A
+pub no-acceptance : {A : Type 0} {x : Refusal} → Refused x ≡ Accepted → A
 no-acceptance e = let z : _≡_ {A = ℕ} 0 1 = cc in absurd (omega arith)
 
 -- ---- from acceptance

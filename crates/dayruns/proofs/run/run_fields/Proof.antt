@@ -1,0 +1,126 @@
+-- The fields taken so far are sound; the next one ends the run or is taken too.
+use mathlib.Core.Path.{_≡_, ap, sym, _∙_}
+use mathlib.Core.Bool.{true}
+use Prim.Native.Nat.{_+_, _-_}
+use native.Mathlib.Omega.{arith}
+use lib.ListN.{length}
+use Rattle.dayformat.specs.Format.{field-size}
+use Rattle.dayformat.proofs.Small.{small}
+use Rattle.dayruns.specs.Field.{begun}
+use Rattle.dayruns.specs.Run.{Fields}
+use Rattle.dayruns.proofs.Breaking.{begun-inside}
+use Rattle.dayruns.proofs.Taking.{taken-long}
+use Rattle.dayruns.proofs.Running.{Going, going-none, going-long, run-over, run-faulty, going-few, going-there, going-next}
+use borrow.Author.Needs.{needs}
+use Rattle.dayruns.proofs.run.run_fields.Statement.{statement}
+use Rattle.dayruns.proofs.run.run_fields.Tie as tie
+
+abbrev Inv-loop : tie.InvT-loop
+Inv-loop source counts file tag at numbers₀ size rows₀ place₀ numbers rows place =
+    Going (record { source = source; counts = counts; file = file; at = at; tag = tag }) numbers₀ rows place numbers
+
+abbrev μ-loop : tie.MeasureT-loop
+μ-loop source counts file tag at numbers₀ size rows₀ place₀ numbers rows place = length file - place
+
+abbrev fields : tie.Start Inv-loop μ-loop → Fields
+fields start =
+    let args = start .args in
+    record { source = args .source; counts = args .counts; file = args .file .now; at = args .at; tag = args .tag }
+
+abbrev start-of : tie.At-loop Inv-loop μ-loop → tie.Start Inv-loop μ-loop
+start-of c = c .before .before .before .before .before
+
+-- a field of the tag begins at the place
+on : (c : tie.Then1 Inv-loop μ-loop) → begun (start-of (c .before .before) .args .file .now) (start-of (c .before .before) .args .tag) (c .before .before .loop .place) ≡ true
+on c = sym (c .before .begins .ensures) ∙ c .if1 .taken
+
+size-is : (c : tie.After-struct-known Inv-loop μ-loop) → 3 + c .before .form-of .result .size ≡ field-size (c .before .before .before .before .args .tag)
+size-is c = ap (λ form. 3 + form .size) (c .before .form-of .ensures)
+
+form-of-requires : tie.Need-form-of-requires Inv-loop μ-loop
+form-of-requires c κs = search needs
+
+add-size : tie.Need-add-size Inv-loop μ-loop
+add-size c = omega (arith, size-is c, small (c .before .before .before .before .args .tag) .size)
+
+loop-holds : tie.Need-loop-holds Inv-loop μ-loop
+loop-holds c = going-none (fields (c .before .before .before .before)) _
+
+begins-requires : tie.Need-begins-requires Inv-loop μ-loop
+begins-requires c κs = search needs
+
+take-field-requires : tie.Need-take-field-requires Inv-loop μ-loop
+take-field-requires c κs = omega (arith, begun-inside _ _ _ (on (c .before)))
+
+same-length : tie.Need-same-length Inv-loop μ-loop
+same-length c =
+    let took = c .before .before .before in
+    let now = took .before .before .before .before in
+    taken-long _ _ _ _ _ _ _ (took .take-field .ensures) ∙ going-long (fields (start-of now)) _ (now .loop .inv)
+
+returns : tie.Need-returns Inv-loop μ-loop
+returns c =
+    let took = c .before .before .before in
+    let begins = took .before .before in
+    let now = begins .before .before in
+    run-faulty (fields (start-of now)) _ (now .loop .inv) (on begins) (took .take-field .ensures) (c .if2 .taken)
+
+add-rows : tie.Need-add-rows Inv-loop μ-loop
+add-rows c =
+    let took = c .before .before .before in
+    let begins = took .before .before in
+    let now = begins .before .before in
+    let fits = going-few (fields (start-of now)) _ (now .loop .inv) (on begins) (took .take-field .ensures) (c .if2 .left) in
+    omega (arith, fits, small (start-of now .args .tag) .most)
+
+add-place : tie.Need-add-place Inv-loop μ-loop
+add-place c =
+    let took = c .before .before .before in
+    let begins = took .before .before in
+    let now = begins .before .before in
+    let there = going-there (fields (start-of now)) _ (now .loop .inv) (on begins) (took .take-field .ensures) (c .if2 .left) in
+    omega (arith, there, size-is (now .before), start-of now .good .1 .1 .0 .0)
+
+loop-less : tie.Need-loop-less Inv-loop μ-loop
+loop-less c =
+    let took = c .before .before .before in
+    let begins = took .before .before in
+    let now = begins .before .before in
+    omega (arith, begun-inside _ _ _ (on begins))
+
+loop-again : tie.Need-loop-again Inv-loop μ-loop
+loop-again c =
+    let took = c .before .before .before in
+    let begins = took .before .before in
+    let now = begins .before .before in
+    rw (size-is (now .before)) (going-next (fields (start-of now)) _ (now .loop .inv) (on begins) (took .take-field .ensures) (c .if2 .left))
+
+same-length-2 : tie.Need-same-length-2 Inv-loop μ-loop
+same-length-2 c =
+    let now = c .before .before in
+    going-long (fields (start-of now)) _ (now .loop .inv)
+
+returns-2 : tie.Need-returns-2 Inv-loop μ-loop
+returns-2 c =
+    let now = c .before .before in
+    run-over (fields (start-of now)) _ (now .loop .inv) (sym (c .before .begins .ensures) ∙ c .if1 .left)
+
+pub run-fields-spec : {M : Type 1} → statement M
+run-fields-spec =
+    tie.close
+    (tie.spec
+    Inv-loop
+    μ-loop
+    form-of-requires
+    add-size
+    loop-holds
+    begins-requires
+    take-field-requires
+    same-length
+    returns
+    add-rows
+    add-place
+    loop-less
+    loop-again
+    same-length-2
+    returns-2)

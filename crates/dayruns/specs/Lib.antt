@@ -1,0 +1,3 @@
+pub mod Field
+pub mod Run
+pub mod Walk

@@ -1,0 +1,9 @@
+// The fields of one tag in a file or in a list of entries, taken one after another and tested, opened.
+mod field;
+mod run;
+mod walk;
+
+pub use run::Run;
+pub use run::run_fields;
+pub use run::take_field;
+pub use walk::Walk;

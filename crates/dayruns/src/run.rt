@@ -1,0 +1,74 @@
+// The fields of one tag, one after another.
+use crate::field::begins;
+use crate::field::breaks;
+use crate::field::read_row;
+use dayformat::Counts;
+use dayformat::Tag;
+use dayformat::form_of;
+use dayformat::row_place;
+use dayrows::Source;
+use dayrows::row_fault;
+ghost use Rattle.dayruns.specs.Run.{Taken, Ran};
+
+// How many sound fields there are, where they end, and the number of the fault there, 0 for none.
+pub struct Run {
+    pub rows: u32,
+    pub place: usize,
+    pub fault: u8,
+}
+
+// The number that refuses the field at a byte, 0 for none. The row of a field that is whole goes into the numbers.
+pub fn take_field(
+    source: Source,
+    counts: Counts,
+    file: &[u8],
+    tag: Tag,
+    at: usize,
+    row: u32,
+    numbers: &mut [usize],
+) -> u8
+    ensures { λ r. ⌜ Taken source counts (now (file .entry)) tag at row (now (numbers .entry)) (now (numbers .exit)) r ⌝ }
+{
+    if file.len() < at {
+        return 1;
+    }
+    let broken = breaks(file, tag, at);
+    if broken != 0 {
+        return broken;
+    }
+    read_row(file, tag, at + 3, numbers, row_place(counts, tag, row));
+    row_fault(source, counts, numbers, tag, row)
+}
+
+// The run of a tag's fields from a byte on. Their rows go into the numbers.
+pub fn run_fields(
+    source: Source,
+    counts: Counts,
+    file: &[u8],
+    tag: Tag,
+    at: usize,
+    numbers: &mut [usize],
+) -> Run
+    ensures { λ r. ⌜ Ran
+        (record { source = source; counts = counts; file = now (file .entry); at = at; tag = tag })
+        (now (numbers .entry))
+        (now (numbers .exit))
+        r ⌝ }
+{
+    let size = 3 + form_of(tag).size;
+    let mut rows = 0;
+    let mut place = at;
+    while begins(file, tag, place) {
+        let fault = take_field(source, counts, file, tag, place, rows, numbers);
+        if fault != 0 {
+            return Run { rows, place, fault };
+        }
+        rows += 1;
+        place += size;
+    }
+    Run {
+        rows,
+        place,
+        fault: 0,
+    }
+}
