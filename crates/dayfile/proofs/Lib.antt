@@ -1,0 +1,6 @@
+pub mod Answers
+pub mod Determined
+pub mod Rooms
+pub mod Stages
+pub mod Steps
+pub mod Walking

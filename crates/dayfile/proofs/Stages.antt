@@ -1,0 +1,63 @@
+-- The walk, stage after stage: each run is the definition's, and leaves the numbers of its rows at the front.
+use mathlib.Core.Path.{_≡_, refl, ap, sym, _∙_}
+use mathlib.Core.List.{List, []}
+use Prim.Native.Nat.{ℕ}
+use native.Mathlib.Omega.{arith}
+use lib.ListN.{length, replicate, length-replicate}
+use Rattle.columns.specs.Column.{col}
+use Rattle.dayformat.specs.declared.form.Tag.{Tag}
+use Rattle.dayformat.specs.declared.form.Tag.the-variants as Tag
+use Rattle.dayformat.specs.Layout.{numbers-in}
+use Rattle.dayruns.specs.declared.walk.Walk.{Walk}
+use Rattle.dayruns.specs.Walk.{ended}
+use Rattle.dayruns.proofs.Ending.{ended-none}
+use Rattle.dayfile.specs.File.{Tables, headed, tabled, tables, most-numbers, Tabled, Walked}
+use Rattle.dayruns.proofs.Fronts.{front-none}
+use Rattle.dayformat.proofs.Small.{Table}
+use Rattle.dayfile.proofs.Rooms.{before, few-none}
+use Rattle.dayfile.proofs.Walking.{Held, Ready, table-answers, table-ready}
+
+-- after the run of a tag
+pub record Stage (tag : Tag) (T : Tables) (walk : Walk) (list : List ℕ) : Type 0 where
+  pub is : walk ≡ T .walk
+  pub ready : Ready tag T list
+  pub room : length list ≡ most-numbers
+
+pub stage-first : (file : List ℕ) {walk : Walk} {list : List ℕ} → walk ≡ headed file → list ≡ replicate most-numbers 0
+    → Stage Tag.Head (record { walk = headed file; numbers = [] }) walk list
+unfolding headed
+stage-first file e zeros =
+    record {
+      is = e;
+      ready = λ none. (record { few = few-none; front = ap col zeros ∙ front-none most-numbers; long = omega arith }, (refl, refl, refl, refl));
+      room = ap length zeros ∙ length-replicate {A = ℕ} most-numbers 0;
+    }
+
+pub stage-next : (file : List ℕ) (tag : Tag) (T : Tables) {walk next : Walk} {list after : List ℕ} → Table tag → Stage (before tag) T walk list
+    → Tabled walk file tag list after next → length after ≡ length list → Stage tag (tabled file tag T) next after
+stage-next file tag T {list = list} t S B long =
+    let step = rw (S .is) at B in
+    record {
+      is = table-answers file tag T list (S .room) t (S .ready) step;
+      ready = table-ready file tag T list (S .room) t (S .ready) step;
+      room = long ∙ S .room;
+    }
+
+pub stage-last : (file : List ℕ) {walk last : Walk} {list : List ℕ} → Stage Tag.Meter (tables file) walk list → last ≡ ended file walk
+    → Walked file list last
+stage-last file {last = last} {list = list} S e =
+    record {
+      answers = whole;
+      holds = λ none. held none .front;
+      counts = λ none.
+          held none .long ∙ ap (λ walk. numbers-in (walk .counts)) (sym (ended-none file (tables file .walk) (sound none) .2) ∙ sym whole);
+    }
+  where
+    whole : last ≡ ended file (tables file .walk)
+    whole = e ∙ ap (ended file) (S .is)
+
+    sound : last .fault ≡ 0 → ended file (tables file .walk) .fault ≡ 0
+    sound none = ap (λ walk. walk .fault) (sym whole) ∙ none
+
+    held : last .fault ≡ 0 → Held (tables file) list
+    held none = S .ready (ended-none file (tables file .walk) (sound none) .0) .0

@@ -1,0 +1,46 @@
+-- The reader's answer: the head and the counts, with every figure in the lent block; or the refusal, with the block as it was.
+use mathlib.Core.Path.{_≡_}
+use mathlib.Core.List.{List}
+use Prim.Native.Nat.{ℕ}
+use lib.Dec.{leb}
+use lib.ListN.{length}
+use lib.Seq.{sets}
+use Rattle.units.specs.declared.refusal.Check.{Check}
+use Rattle.units.specs.declared.refusal.Check.the-variants as Check
+use Rattle.units.specs.Refusals.{accepted-or, _then_, keep}
+use Rattle.dayformat.specs.declared.day.Day.{Day}
+use Rattle.dayformat.specs.Layout.{no-rows, numbers-in}
+use Rattle.dayfile.specs.declared.reader.Reading.{Reading}
+use Rattle.dayfile.specs.declared.reader.Reading.the-variants.{Refused, Read}
+use Rattle.dayruns.specs.Walk.{file-check}
+use Rattle.dayfile.specs.File.{head-of, tables, walked}
+
+-- 7 only for a file that is otherwise sound
+unfoldable pub check : List ℕ → ℕ → Check
+check file room = file-check (walked file) then keep (leb (numbers-in (walked file .counts)) room) 7
+
+abbrev pub day-of : List ℕ → Day
+day-of file = record { head = head-of file; counts = walked file .counts }
+
+-- 01's number (0 where read), its place, and the head's and the counts' figures (zero where refused)
+abbrev pub number : Reading → ℕ
+number (Refused refusal) = refusal .number
+number (Read day) = 0
+
+abbrev pub place : Reading → ℕ
+place (Refused refusal) = refusal .place
+place (Read day) = 0
+
+abbrev pub figures : Reading → Day
+figures (Refused refusal) =
+    record { head = record { day = 0; «free_flow» = record { 0 = 0 }; compressor = record { 0 = 0 } }; counts = no-rows }
+figures (Read day) = day
+
+abbrev pub answer : Check → Day → Reading
+answer (Check.Refused refusal) day = Refused refusal
+answer Check.Accepted day = Read day
+
+-- the answer, and the lent block before and after
+pub record Answered (file lent after : List ℕ) (reading : Reading) : Type 0 where
+  pub answers : reading ≡ answer (check file (length lent)) (day-of file)
+  pub leaves : after ≡ accepted-or (check file (length lent)) (sets lent 0 (tables file .numbers)) lent

@@ -1,0 +1,94 @@
+-- 01, "The day file": a head, then the fields of each tag in order, then nothing.
+use mathlib.Core.Path.{_≡_}
+use mathlib.Core.Bool.{cond}
+use mathlib.Core.List.{List, [], _++_}
+use Prim.Native.Nat.{ℕ}
+use lib.Dec.{eqb}
+use lib.ListN.{length, take, drop}
+use Rattle.columns.specs.Column.{col}
+use Rattle.bigendian.specs.Number.{value}
+use Rattle.dayformat.specs.declared.day.Head.{Head}
+use Rattle.dayformat.specs.declared.form.Tag.{Tag}
+use Rattle.dayformat.specs.declared.form.Tag.the-variants as Tag
+use Rattle.dayformat.specs.Format.{field-size}
+use Rattle.dayformat.specs.Layout.{no-rows, numbers-in}
+use Rattle.dayrows.specs.declared.Source.{Source}
+use Rattle.dayrows.specs.declared.Source.the-variants as Source
+use Rattle.dayruns.specs.declared.run.Run.{Run}
+use Rattle.dayruns.specs.declared.walk.Walk.{Walk}
+use Rattle.dayruns.specs.Run.{Fields, rows-of, field-fault, run-of, laid}
+use Rattle.dayruns.specs.Walk.{walk-after, ended}
+
+-- a file read up to a place or to its first faulty field, and the numbers of the rows before
+pub record Tables : Type 0 where
+  pub walk : Walk
+  pub numbers : List ℕ
+
+abbrev pub fields-from : List ℕ → Walk → Tag → Fields
+fields-from file walk tag =
+    record { source = Source.File; counts = walk .counts; file = file; at = walk .place; tag = tag }
+
+-- ---- tag 1: once, first
+abbrev pub head-fields : List ℕ → Fields
+head-fields file = record { source = Source.File; counts = no-rows; file = file; at = 0; tag = Tag.Head }
+
+abbrev pub head-fault : List ℕ → ℕ
+head-fault file = field-fault (head-fields file) (λ rows. col (rows-of (head-fields file) rows)) 0
+
+unfoldable pub headed : List ℕ → Walk
+headed file =
+    record { fault = head-fault file; place = cond (eqb (head-fault file) 0) (field-size Tag.Head) 0; counts = no-rows }
+
+abbrev pub head-of : List ℕ → Head
+head-of file =
+    record {
+      day = value (take 4 (drop 3 file));
+      «free_flow» = record { 0 = value (take 4 (drop 7 file)) };
+      compressor = record { 0 = value (take 4 (drop 11 file)) };
+    }
+
+-- ---- the fields of one tag after those before
+abbrev pub table-run : List ℕ → Tag → Tables → Run
+table-run file tag T =
+    let F = fields-from file (T .walk) tag in
+    run-of F (λ many. col (T .numbers ++ rows-of F many))
+
+unfoldable pub tabled : List ℕ → Tag → Tables → Tables
+tabled file tag T =
+    cond (eqb (T .walk .fault) 0)
+    (record {
+      walk = walk-after (T .walk) tag (table-run file tag T);
+      numbers = T .numbers ++ rows-of (fields-from file (T .walk) tag) (table-run file tag T .rows);
+    })
+    T
+
+-- ---- the whole file
+abbrev pub tables : List ℕ → Tables
+tables file =
+    tabled file Tag.Meter
+    (tabled file Tag.Entry
+    (tabled file Tag.Point (tabled file Tag.Shipper (record { walk = headed file; numbers = [] }))))
+
+abbrev pub walked : List ℕ → Walk
+walked file = ended file (tables file .walk)
+
+-- ---- the statements of the routines that walk through a file with a lent list of numbers
+pub record Tabled (walk : Walk) (file : List ℕ) (tag : Tag) (lent after : List ℕ) (next : Walk) : Type 0 where
+  pub answers :
+      next
+      ≡ cond (eqb (walk .fault) 0)
+      (walk-after walk tag (run-of (fields-from file walk tag) (λ many. col (laid (fields-from file walk tag) lent many))))
+      walk
+  pub lays :
+      walk .fault ≡ 0
+      → next .fault ≡ 0
+      → after ≡ laid (fields-from file walk tag) lent (run-of (fields-from file walk tag) (λ many. col (laid (fields-from file walk tag) lent many)) .rows)
+
+-- how many numbers a day has at most
+abbrev pub most-numbers : ℕ
+most-numbers = 6_880
+
+pub record Walked (file after : List ℕ) (walk : Walk) : Type 0 where
+  pub answers : walk ≡ walked file
+  pub holds : walk .fault ≡ 0 → col after ≡ col (tables file .numbers)
+  pub counts : walk .fault ≡ 0 → length (tables file .numbers) ≡ numbers-in (walk .counts)

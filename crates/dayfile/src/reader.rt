@@ -1,0 +1,67 @@
+// The reader: a file walked through with numbers of our own, which go into the lent block where the whole file is sound.
+use crate::walk::walk_file;
+use bigendian::number_at;
+use dayformat::Day;
+use dayformat::Head;
+use dayformat::numbers_of;
+use dayrows::number_of;
+use units::Check;
+use units::Gigajoules;
+use units::Refusal;
+ghost use mathlib.Core.Path.{_≡_};
+ghost use Prim.Native.Nat.{_≤_};
+ghost use lib.ListN.{length};
+ghost use lib.Seq.{sets};
+ghost use Rattle.columns.specs.Column.{col, listed};
+ghost use Rattle.dayfile.specs.File.{head-of};
+ghost use Rattle.dayfile.specs.Answer.{Answered};
+
+// How many numbers a day has at most: 64 shippers, 32 points, 512 entries, 64 meters.
+const MOST_NUMBERS: usize = 6_880;
+
+// The head and the counts of a day, or why its file is refused.
+pub enum Reading {
+    Refused(Refusal),
+    Read(Day),
+}
+
+// Reads a day's file. Every figure of its tables goes to the front of a lent block.
+pub fn read_day(file: &[u8], lent: &mut [usize]) -> Reading
+    ensures { λ r. ⌜ Answered (now (file .entry)) (now (lent .entry)) (now (lent .exit)) r ⌝ }
+{
+    let mut numbers = [0usize; MOST_NUMBERS];
+    let walk = walk_file(file, &mut numbers);
+    let counts = walk.counts;
+    let count = numbers_of(counts);
+    let found = walk.check().keep(count <= lent.len(), 7);
+    match found {
+        Check::Refused(refusal) => Reading::Refused(refusal),
+        Check::Accepted => {
+            copy_numbers(&numbers, count, lent);
+            Reading::Read(Day {
+                head: head_of(file),
+                counts,
+            })
+        }
+    }
+}
+
+fn head_of(file: &[u8]) -> Head
+    ensures { λ r. ⌜ r ≡ head-of (now (file .entry)) ⌝ }
+{
+    Head {
+        day: number_at(file, 3, 4),
+        free_flow: Gigajoules(number_at(file, 7, 4)),
+        compressor: Gigajoules(number_at(file, 11, 4)),
+    }
+}
+
+// The first of the numbers to the front of a block.
+fn copy_numbers(numbers: &[usize], count: usize, lent: &mut [usize])
+    requires { ⌜ count ≤ length (now lent) ⌝ }
+    ensures { λ _. ⌜ now (lent .exit) ≡ sets (now (lent .entry)) 0 (listed count (col (now (numbers .entry)))) ⌝ }
+{
+    for place in 0..count {
+        lent[place] = number_of(numbers, place);
+    }
+}
