@@ -1,0 +1,154 @@
+-- What acceptance says of a day and its numbers, and that a day of which all this holds is accepted.
+use mathlib.Core.Path.{_≡_, refl, sym}
+use mathlib.Core.Bool.{true, not}
+use mathlib.Core.List.{List}
+use Prim.Native.Nat.{ℕ, _≤_, _<_}
+use native.Mathlib.Nat.{le-of-eq}
+use native.Mathlib.Omega.{arith}
+use borrow.Author.Tests.{leb-true, eqb-true, not-false, le-leb, eq-eqb}
+use lib.ListN.{length}
+use Rattle.columns.specs.Column.{col}
+use Rattle.columns.proofs.Firsts.{first-passed, first-none}
+use Rattle.units.specs.declared.refusal.Check.{Check}
+use Rattle.units.specs.Bound.{most-gigajoules}
+use Rattle.units.specs.Refusals.{clear}
+use Rattle.units.proofs.Checks.{both-accepted, kept, cleared, accepts-both, accepts-kept, accepts-clear}
+use Rattle.dayformat.specs.declared.day.Day.{Day}
+use Rattle.dayformat.specs.declared.form.Tag.{Tag}
+use Rattle.dayformat.specs.declared.form.Tag.the-variants.{Head, Shipper, Point, Entry, Meter}
+use Rattle.dayformat.specs.declared.layout.Counts.{Counts}
+use Rattle.dayformat.specs.Format.{form}
+use Rattle.dayformat.specs.Layout.{count, numbers-in}
+use Rattle.dayformat.proofs.Small.{Table}
+use Rattle.dayrows.specs.declared.Source.the-variants.{File}
+use Rattle.dayrows.specs.declared.Test.{Test}
+use Rattle.dayrows.specs.declared.Test.the-variants.{Bounds, Key, Mdq}
+use Rattle.dayrows.specs.Test.{passes, first-failing}
+use Rattle.daywriter.specs.Acceptance.{singles, tables, sound}
+
+-- a table's rows all pass a test
+abbrev pub Passed : Test → Counts → (ℕ → ℕ) → Tag → Type 0
+Passed test counts numbers tag = (row : ℕ) → row < count counts tag → passes test File counts numbers tag row ≡ true
+
+-- 9: as many numbers as the counts say; 3, 5, 4: the capacities and the counts, then every row of every table
+pub record Sound (day : Day) (numbers : List ℕ) : Type 0 where
+  pub long : length numbers ≡ numbers-in (day .counts)
+  pub free-flow : day .head .«free_flow» .0 ≤ most-gigajoules
+  pub compressor : day .head .compressor .0 ≤ most-gigajoules
+  pub few : (tag : Tag) → count (day .counts) tag ≤ form tag .most
+  pub passes : (tag : Tag) → Table tag → (test : Test) → Passed test (day .counts) (col numbers) tag
+
+-- ---- one test over the tables
+module _ (test : Test) (number : ℕ) (counts : Counts) (numbers : ℕ → ℕ) where
+  abbrev clear-at : Tag → Check
+  clear-at tag = clear (count counts tag) (first-failing test counts numbers tag) number
+
+  table-passed : (tag : Tag) → clear-at tag ≡ Check.Accepted → Passed test counts numbers tag
+  table-passed tag e row l =
+      not-false _ (first-passed (λ row. not (passes test File counts numbers tag row)) (count counts tag) (cleared _ _ _ e) row l)
+
+  table-clear : (tag : Tag) → Passed test counts numbers tag → clear-at tag ≡ Check.Accepted
+  table-clear tag pass =
+      accepts-clear _ _ _
+      (le-of-eq
+      (sym (first-none (λ row. not (passes test File counts numbers tag row)) (count counts tag) (λ row l. rw (pass row l)))))
+
+  tables-passed : tables test number counts numbers ≡ Check.Accepted → (tag : Tag) → Table tag → Passed test counts numbers tag
+  unfolding tables
+  tables-passed e =
+      let meter = both-accepted _ _ e in
+      let entry = both-accepted _ _ (meter .0) in
+      let point = both-accepted _ _ (entry .0) in
+      let shipper = both-accepted _ _ (point .0) in
+      by (shipper .1) (point .1) (entry .1) (meter .1)
+    where
+      by : clear-at Shipper ≡ Check.Accepted → clear-at Point ≡ Check.Accepted → clear-at Entry ≡ Check.Accepted
+          → clear-at Meter ≡ Check.Accepted → (tag : Tag) → Table tag → Passed test counts numbers tag
+      by s p e m Head none = absurd none
+      by s p e m Shipper T = table-passed Shipper s
+      by s p e m Point T = table-passed Point p
+      by s p e m Entry T = table-passed Entry e
+      by s p e m Meter T = table-passed Meter m
+
+  tables-clear : ((tag : Tag) → Table tag → Passed test counts numbers tag) → tables test number counts numbers ≡ Check.Accepted
+  unfolding tables
+  tables-clear pass =
+      accepts-both
+      (accepts-both
+      (accepts-both (accepts-both refl (table-clear Shipper (pass Shipper tt))) (table-clear Point (pass Point tt)))
+      (table-clear Entry (pass Entry tt)))
+      (table-clear Meter (pass Meter tt))
+
+-- ---- the head and the counts
+count-few : (counts : Counts) → count counts Shipper ≤ form Shipper .most → count counts Point ≤ form Point .most
+    → count counts Entry ≤ form Entry .most → count counts Meter ≤ form Meter .most → (tag : Tag) → count counts tag ≤ form tag .most
+count-few counts s p e m Head = omega arith
+count-few counts s p e m Shipper = s
+count-few counts s p e m Point = p
+count-few counts s p e m Entry = e
+count-few counts s p e m Meter = m
+
+singles-accept : (day : Day) → day .head .«free_flow» .0 ≤ most-gigajoules → day .head .compressor .0 ≤ most-gigajoules
+    → ((tag : Tag) → count (day .counts) tag ≤ form tag .most) → singles day ≡ Check.Accepted
+unfolding singles
+singles-accept day free-flow compressor few =
+    accepts-both
+    (accepts-both
+    (accepts-both
+    (accepts-both
+    (accepts-both
+    (accepts-both refl (accepts-kept 3 (le-leb _ _ free-flow)))
+    (accepts-kept 3 (le-leb _ _ compressor)))
+    (accepts-kept 3 (le-leb _ _ (few Shipper))))
+    (accepts-kept 3 (le-leb _ _ (few Point))))
+    (accepts-kept 3 (le-leb _ _ (few Entry))))
+    (accepts-kept 3 (le-leb _ _ (few Meter)))
+
+-- ---- the whole
+module _ (day : Day) (numbers : List ℕ) where
+  pub accepting : sound day numbers ≡ Check.Accepted → Sound day numbers
+  unfolding sound singles
+  accepting e =
+      let mdqs = both-accepted _ _ e in
+      let keys = both-accepted _ _ (mdqs .0) in
+      let bounds = both-accepted _ _ (keys .0) in
+      let figures = both-accepted _ _ (bounds .0) in
+      let lengths = both-accepted _ _ (figures .0) in
+      let meters = both-accepted _ _ (figures .1) in
+      let entries = both-accepted _ _ (meters .0) in
+      let points = both-accepted _ _ (entries .0) in
+      let shippers = both-accepted _ _ (points .0) in
+      let compressor = both-accepted _ _ (shippers .0) in
+      let free-flow = both-accepted _ _ (compressor .0) in
+      record {
+        long = eqb-true _ _ (kept _ _ (lengths .1));
+        free-flow = leb-true _ _ (kept _ _ (free-flow .1));
+        compressor = leb-true _ _ (kept _ _ (compressor .1));
+        few =
+            count-few (day .counts) (leb-true _ _ (kept _ _ (shippers .1))) (leb-true _ _ (kept _ _ (points .1)))
+            (leb-true _ _ (kept _ _ (entries .1))) (leb-true _ _ (kept _ _ (meters .1)));
+        passes = by (bounds .1) (keys .1) (mdqs .1);
+      }
+    where
+      by : tables Bounds 3 (day .counts) (col numbers) ≡ Check.Accepted → tables Key 5 (day .counts) (col numbers) ≡ Check.Accepted
+          → tables Mdq 4 (day .counts) (col numbers) ≡ Check.Accepted
+          → (tag : Tag) → Table tag → (test : Test) → Passed test (day .counts) (col numbers) tag
+      by b k m tag T Bounds = tables-passed Bounds 3 (day .counts) (col numbers) b tag T
+      by b k m tag T Key = tables-passed Key 5 (day .counts) (col numbers) k tag T
+      by b k m tag T Mdq = tables-passed Mdq 4 (day .counts) (col numbers) m tag T
+
+  pub accepts : Sound day numbers → sound day numbers ≡ Check.Accepted
+  unfolding sound
+  accepts S =
+      accepts-both
+      (accepts-both
+      (accepts-both
+      (accepts-both
+      (accepts-both refl (accepts-kept 9 (eq-eqb _ _ (S .long))))
+      (singles-accept day (S .free-flow) (S .compressor) (S .few)))
+      (clear-by Bounds 3))
+      (clear-by Key 5))
+      (clear-by Mdq 4)
+    where
+      clear-by : (test : Test) (number : ℕ) → tables test number (day .counts) (col numbers) ≡ Check.Accepted
+      clear-by test number = tables-clear test number (day .counts) (col numbers) (λ tag T. S .passes tag T test)

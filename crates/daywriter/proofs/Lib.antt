@@ -1,0 +1,6 @@
+pub mod RowLaying
+pub mod Sizes
+pub mod FieldLaying
+pub mod Answers
+pub mod Accepting
+pub mod Determined

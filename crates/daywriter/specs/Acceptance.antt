@@ -1,0 +1,51 @@
+-- 01, "Refusal numbers": the tests of a day, number by number over all tables.
+use mathlib.Core.List.{List}
+use Prim.Native.Nat.{ℕ}
+use lib.Dec.{leb, eqb}
+use lib.ListN.{length}
+use Rattle.columns.specs.Column.{col}
+use Rattle.units.specs.declared.refusal.Check.{Check}
+use Rattle.units.specs.Bound.{most-gigajoules}
+use Rattle.units.specs.Refusals.{_then_, keep, clear}
+use Rattle.dayformat.specs.declared.day.Day.{Day}
+use Rattle.dayformat.specs.declared.form.Tag.{Tag}
+use Rattle.dayformat.specs.declared.form.Tag.the-variants as Tag
+use Rattle.dayformat.specs.declared.layout.Counts.{Counts}
+use Rattle.dayformat.specs.Format.{form}
+use Rattle.dayformat.specs.Layout.{count, numbers-in, file-size}
+use Rattle.dayrows.specs.declared.Test.{Test}
+use Rattle.dayrows.specs.declared.Test.the-variants as Test
+use Rattle.dayrows.specs.Test.{first-failing}
+
+-- 3: the head, then the counts
+unfoldable pub singles : Day → Check
+singles day =
+    Check.Accepted
+    then keep (leb (day .head .«free_flow» .0) most-gigajoules) 3
+    then keep (leb (day .head .compressor .0) most-gigajoules) 3
+    then keep (leb (count (day .counts) Tag.Shipper) (form Tag.Shipper .most)) 3
+    then keep (leb (count (day .counts) Tag.Point) (form Tag.Point .most)) 3
+    then keep (leb (count (day .counts) Tag.Entry) (form Tag.Entry .most)) 3
+    then keep (leb (count (day .counts) Tag.Meter) (form Tag.Meter .most)) 3
+
+-- one test over the tables in file order: refused by its number at the lowest row
+unfoldable pub tables : Test → ℕ → Counts → (ℕ → ℕ) → Check
+tables test number counts numbers =
+    Check.Accepted
+    then clear (count counts Tag.Shipper) (first-failing test counts numbers Tag.Shipper) number
+    then clear (count counts Tag.Point) (first-failing test counts numbers Tag.Point) number
+    then clear (count counts Tag.Entry) (first-failing test counts numbers Tag.Entry) number
+    then clear (count counts Tag.Meter) (first-failing test counts numbers Tag.Meter) number
+
+-- what the writer accepts, whatever room it is lent
+unfoldable pub sound : Day → List ℕ → Check
+sound day numbers =
+    Check.Accepted
+    then keep (eqb (length numbers) (numbers-in (day .counts))) 9
+    then singles day
+    then tables Test.Bounds 3 (day .counts) (col numbers)
+    then tables Test.Key 5 (day .counts) (col numbers)
+    then tables Test.Mdq 4 (day .counts) (col numbers)
+
+unfoldable pub check : Day → List ℕ → ℕ → Check
+check day numbers room = sound day numbers then keep (leb (file-size (day .counts)) room) 7

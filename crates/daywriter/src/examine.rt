@@ -1,0 +1,56 @@
+// The tests of a day, number by number over all tables.
+use dayformat::Counts;
+use dayformat::Day;
+use dayformat::Tag;
+use dayformat::form_of;
+use dayformat::numbers_of;
+use dayrows::Test;
+use dayrows::first_failing_row;
+use units::Check;
+use units::MOST_GIGAJOULES;
+ghost use mathlib.Core.Path.{_≡_};
+ghost use Rattle.columns.specs.Column.{col};
+ghost use Rattle.daywriter.specs.Acceptance.{singles, tables, sound};
+
+// 9, 3, 5 and 4.
+pub fn examine(day: Day, numbers: &[usize]) -> Check
+    ensures { λ r. ⌜ r ≡ sound day (now (numbers .entry)) ⌝ }
+{
+    let counts = day.counts;
+    Check::Accepted
+        .keep(numbers.len() == numbers_of(counts), 9)
+        .then(examine_singles(day))
+        .then(examine_tables(Test::Bounds, 3, counts, numbers))
+        .then(examine_tables(Test::Key, 5, counts, numbers))
+        .then(examine_tables(Test::Mdq, 4, counts, numbers))
+}
+
+// 3: the head, then the counts.
+fn examine_singles(day: Day) -> Check
+    ensures { λ r. ⌜ r ≡ singles day ⌝ }
+{
+    let head = day.head;
+    let counts = day.counts;
+    Check::Accepted
+        .keep(head.free_flow.0 <= MOST_GIGAJOULES.0, 3)
+        .keep(head.compressor.0 <= MOST_GIGAJOULES.0, 3)
+        .keep(counts.shippers <= form_of(Tag::Shipper).most, 3)
+        .keep(counts.points <= form_of(Tag::Point).most, 3)
+        .keep(counts.entries <= form_of(Tag::Entry).most, 3)
+        .keep(counts.meters <= form_of(Tag::Meter).most, 3)
+}
+
+// One test over the tables in file order.
+fn examine_tables(test: Test, number: u8, counts: Counts, numbers: &[usize]) -> Check
+    ensures { λ r. ⌜ r ≡ tables test number counts (col (now (numbers .entry))) ⌝ }
+{
+    let shipper = first_failing_row(test, counts, numbers, Tag::Shipper);
+    let point = first_failing_row(test, counts, numbers, Tag::Point);
+    let entry = first_failing_row(test, counts, numbers, Tag::Entry);
+    let meter = first_failing_row(test, counts, numbers, Tag::Meter);
+    Check::Accepted
+        .clear(counts.shippers as usize, shipper as usize, number)
+        .clear(counts.points as usize, point as usize, number)
+        .clear(counts.entries as usize, entry as usize, number)
+        .clear(counts.meters as usize, meter as usize, number)
+}
