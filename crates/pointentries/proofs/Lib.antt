@@ -1,0 +1,3 @@
+pub mod EntryKeys
+pub mod EntryLists
+pub mod EntryParts
