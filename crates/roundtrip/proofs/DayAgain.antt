@@ -1,0 +1,161 @@
+-- An accepted day written and read gives the same day.
+use mathlib.Core.Path.{_≡_, refl, ap, sym, _∙_}
+use mathlib.Core.List.{List, _++_}
+use Prim.Native.Nat.{ℕ, suc, _+_, _≤_, _<_}
+use native.Mathlib.Nat.{lt-of-le-of-lt, mul-le-mul-right}
+use native.Mathlib.Omega.{arith}
+use borrow.Author.Tests.{eq-eqb}
+use lib.ListN.{length, length-append}
+use Rattle.columns.specs.Column.{col}
+use Rattle.columns.proofs.Lists.{length-listed, col-listed}
+use Rattle.bigendian.specs.Row.{Fit}
+use Rattle.dayformat.specs.declared.day.Day.{Day}
+use Rattle.dayformat.specs.declared.form.Tag.{Tag}
+use Rattle.dayformat.specs.Format.{body, column-in, widths, form}
+use Rattle.dayformat.specs.Layout.{count, table-start, row-start, numbers-in}
+use Rattle.dayformat.specs.Table.{joined}
+use Rattle.dayformat.proofs.Small.{spelled, Table}
+use Rattle.dayformat.proofs.Tables.{length-joined}
+use Rattle.dayrows.specs.declared.Source.the-variants.{File}
+use Rattle.dayrows.specs.declared.Test.{Test}
+use Rattle.dayrows.specs.declared.Test.the-variants as Test
+use Rattle.dayrows.specs.Test.{passes, fault}
+use Rattle.dayrows.proofs.Faults.{none-fault}
+use Rattle.dayrows.proofs.Same.{Earlier, start-same, passes-same}
+use Rattle.dayrows.proofs.Within.{passes-bounded, within-bounds}
+use Rattle.dayruns.specs.Run.{Fields, place-of, rows-of}
+use Rattle.dayruns.specs.Walk.{walk-after}
+use Rattle.dayfile.specs.File.{Tables, fields-from, table-run, tabled}
+use Rattle.dayfile.proofs.Rooms.{before, None-after, none-with, starts-after, grown}
+use Rattle.daywriter.specs.Written.{row-from, fields}
+use Rattle.daywriter.proofs.Accepting.{Sound}
+use Rattle.daywriter.proofs.Sizes.{length-fields}
+use Rattle.roundtrip.proofs.Above.{Above}
+use Rattle.roundtrip.proofs.Agreeing.{Agree, agree-earlier, agree-with, table-inside}
+use Rattle.roundtrip.proofs.Fronting.{Leads, leads-more}
+use Rattle.roundtrip.proofs.WrittenRuns.{Written, rows-again, run-again}
+
+module _ (day : Day) (numbers : List ℕ) (S : Sound day numbers) where
+  abbrev row : Tag → ℕ → List ℕ
+  row tag i = row-from (col numbers) tag (row-start (day .counts) tag i)
+
+  -- a row that is within its bounds can be spelled
+  row-fits : (tag : Tag) → Table tag → (i : ℕ) → i < count (day .counts) tag → Fit (widths tag) (row tag i)
+  row-fits tag t i l =
+      record {
+        as-many = length-listed _ _ ∙ sym (length-listed _ _);
+        below = λ place k.
+            let inside : place < form tag .columns = rw length-listed at k in
+            let bound =
+            within-bounds (column-in (body tag) place) _
+            (passes-bounded File (day .counts) (col numbers) tag i (S .passes tag t Test.Bounds i l) .1 place inside) .1
+            in rw (
+              col-listed (form tag .columns) (λ place. col numbers (row-start (day .counts) tag i + place)) place inside,
+              col-listed (form tag .columns) (λ place. column-in (body tag) place .width) place inside,
+            )
+            (lt-of-le-of-lt bound (spelled tag place));
+      }
+
+  module _ (file : List ℕ) where
+    -- what is read back after the run of a tag
+    pub record Back (tag : Tag) (T : Tables) (ahead : List ℕ) : Type 0 where
+      pub sound : T .walk .fault ≡ 0
+      pub here : T .walk .place ≡ length ahead
+      pub agree : Agree tag (T .walk .counts) (day .counts)
+      pub none : None-after tag (T .walk .counts)
+      pub long : length (T .numbers) ≡ numbers-in (T .walk .counts)
+      pub leads : Leads (T .numbers) numbers
+
+    module _ (tag : Tag) (t : Table tag) (T : Tables) (ahead rest : List ℕ) (B : Back (before tag) T ahead)
+        (is : file ≡ ahead ++ (fields (day .counts) (col numbers) tag ++ rest)) (above : Above (form tag .byte) rest) where
+      abbrev F : Fields
+      F = fields-from file (T .walk) tag
+
+      abbrev many : ℕ
+      many = count (day .counts) tag
+
+      earlier : Earlier tag (T .walk .counts) (day .counts)
+      earlier = agree-earlier tag t (T .walk .counts) (day .counts) (B .agree)
+
+      start : length (T .numbers) ≡ table-start (T .walk .counts) tag
+      start = B .long ∙ sym (starts-after (T .walk .counts) tag t (B .none))
+
+      same-start : length (T .numbers) ≡ table-start (day .counts) tag
+      same-start = start ∙ start-same tag (T .walk .counts) (day .counts) earlier
+
+      abbrev written : Written F
+      written =
+          record {
+            row = row tag;
+            many = many;
+            ahead = ahead;
+            rest = rest;
+            is = is;
+            here = sym (B .here);
+            each = λ i. length-listed _ _;
+            fits = row-fits tag t;
+            few = S .few tag;
+            above = above;
+          }
+
+      front : (m : ℕ) → m ≤ many → Leads (T .numbers ++ joined m (row tag)) numbers
+      front m l =
+          leads-more (T .numbers) numbers (table-start (day .counts) tag) (form tag .columns) (row tag) (B .leads) same-start (λ i. refl) m
+          (omega (arith, S .long, table-inside tag t (day .counts), mul-le-mul-right (form tag .columns) l))
+
+      read-sound : (i : ℕ) → i < many → fault File (T .walk .counts) (col (T .numbers ++ rows-of F (suc i))) tag i ≡ 0
+      read-sound i l =
+          rw (rows-again F written (suc i) l)
+          (none-fault File (T .walk .counts) (col (T .numbers ++ joined (suc i) (row tag))) tag i
+          (λ test.
+          passes-same test File tag (T .walk .counts) (day .counts) (col (T .numbers ++ joined (suc i) (row tag))) (col numbers) i earlier
+          (λ place k.
+          sym
+          (front (suc i) l .1 place
+          (omega (
+            arith,
+            k,
+            start,
+            length-append (T .numbers) (joined (suc i) (row tag)),
+            length-joined (row tag) (form tag .columns) (λ i. length-listed _ _) (suc i),
+          ))))
+          ∙ S .passes tag t test i l))
+
+      run-is : table-run file tag T ≡ record { rows = many; place = place-of F many; fault = 0 }
+      run-is = run-again F written (λ many. col (T .numbers ++ rows-of F many)) read-sound
+
+      tabled-is : tabled file tag T
+          ≡ record {
+            walk = walk-after (T .walk) tag (record { rows = many; place = place-of F many; fault = 0 });
+            numbers = T .numbers ++ joined many (row tag);
+          }
+      unfolding tabled
+      tabled-is =
+          rw (eq-eqb (T .walk .fault) 0 (B .sound))
+          (ap (λ run. record { walk = walk-after (T .walk) tag run; numbers = T .numbers ++ rows-of F (run .rows) }) run-is
+          ∙ ap
+          (λ rows.
+          record {
+            walk = walk-after (T .walk) tag (record { rows = many; place = place-of F many; fault = 0 });
+            numbers = T .numbers ++ rows;
+          })
+          (rows-again F written many (omega arith)))
+
+      pub back-more : Back tag (tabled file tag T) (ahead ++ fields (day .counts) (col numbers) tag)
+      back-more =
+          rw tabled-is
+          (record {
+            sound = refl;
+            here = omega (arith, B .here, length-append ahead (fields (day .counts) (col numbers) tag), length-fields (col numbers) tag (day .counts));
+            agree = agree-with tag t (T .walk .counts) (day .counts) (B .agree);
+            none = none-with tag t (T .walk .counts) many (B .none);
+            long =
+                omega (
+                  arith,
+                  length-append (T .numbers) (joined many (row tag)),
+                  length-joined (row tag) (form tag .columns) (λ i. length-listed _ _) many,
+                  B .long,
+                  grown (T .walk .counts) tag t many (B .none),
+                );
+            leads = front many (omega arith);
+          })

@@ -1,0 +1,13 @@
+pub mod Above
+pub mod Agreeing
+pub mod DayAgain
+pub mod Exact
+pub mod FieldsThere
+pub mod FileAgain
+pub mod Fronting
+pub mod HeadAgain
+pub mod OnRoutines
+pub mod Rereading
+pub mod RoundTrips
+pub mod SoundRuns
+pub mod WrittenRuns
