@@ -24,7 +24,7 @@ use Rattle.dayrows.specs.declared.Source.the-variants.{File}
 use Rattle.dayrows.specs.declared.Test.{Test}
 use Rattle.dayrows.specs.declared.Test.the-variants.{Bounds, Key, Mdq}
 use Rattle.dayrows.specs.Test.{passes, first-failing}
-use Rattle.daywriter.specs.Acceptance.{singles, tables, sound}
+use Rattle.daywriter.specs.Acceptance.{singles, tables, rows-check, sound}
 
 -- a table's rows all pass a test
 abbrev pub Passed : Test → Counts → (ℕ → ℕ) → Tag → Type 0
@@ -107,12 +107,13 @@ singles-accept day free-flow compressor few =
 -- ---- the whole
 module _ (day : Day) (numbers : List ℕ) where
   pub accepting : sound day numbers ≡ Check.Accepted → Sound day numbers
-  unfolding sound singles
+  unfolding sound singles rows-check
   accepting e =
-      let mdqs = both-accepted _ _ e in
+      let figures-rows = both-accepted _ _ e in
+      let mdqs = both-accepted _ _ (figures-rows .1) in
       let keys = both-accepted _ _ (mdqs .0) in
       let bounds = both-accepted _ _ (keys .0) in
-      let figures = both-accepted _ _ (bounds .0) in
+      let figures = both-accepted _ _ (figures-rows .0) in
       let lengths = both-accepted _ _ (figures .0) in
       let meters = both-accepted _ _ (figures .1) in
       let entries = both-accepted _ _ (meters .0) in
@@ -138,17 +139,11 @@ module _ (day : Day) (numbers : List ℕ) where
       by b k m tag T Mdq = tables-passed Mdq 4 (day .counts) (col numbers) m tag T
 
   pub accepts : Sound day numbers → sound day numbers ≡ Check.Accepted
-  unfolding sound
+  unfolding sound rows-check
   accepts S =
       accepts-both
-      (accepts-both
-      (accepts-both
-      (accepts-both
-      (accepts-both refl (accepts-kept 9 (eq-eqb _ _ (S .long))))
-      (singles-accept day (S .free-flow) (S .compressor) (S .few)))
-      (clear-by Bounds 3))
-      (clear-by Key 5))
-      (clear-by Mdq 4)
+      (accepts-both (accepts-both refl (accepts-kept 9 (eq-eqb _ _ (S .long)))) (singles-accept day (S .free-flow) (S .compressor) (S .few)))
+      (accepts-both (accepts-both (accepts-both refl (clear-by Bounds 3)) (clear-by Key 5)) (clear-by Mdq 4))
     where
       clear-by : (test : Test) (number : ℕ) → tables test number (day .counts) (col numbers) ≡ Check.Accepted
       clear-by test number = tables-clear test number (day .counts) (col numbers) (λ tag T. S .passes tag T test)

@@ -4,3 +4,4 @@ pub mod FieldLaying
 pub mod Answers
 pub mod Accepting
 pub mod Determined
+pub mod Examining

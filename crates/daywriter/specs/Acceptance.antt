@@ -37,15 +37,21 @@ tables test number counts numbers =
     then clear (count counts Tag.Entry) (first-failing test counts numbers Tag.Entry) number
     then clear (count counts Tag.Meter) (first-failing test counts numbers Tag.Meter) number
 
+-- number by number over all tables
+unfoldable pub rows-check : Counts → (ℕ → ℕ) → Check
+rows-check counts numbers =
+    Check.Accepted
+    then tables Test.Bounds 3 counts numbers
+    then tables Test.Key 5 counts numbers
+    then tables Test.Mdq 4 counts numbers
+
 -- what the writer accepts, whatever room it is lent
 unfoldable pub sound : Day → List ℕ → Check
 sound day numbers =
     Check.Accepted
     then keep (eqb (length numbers) (numbers-in (day .counts))) 9
     then singles day
-    then tables Test.Bounds 3 (day .counts) (col numbers)
-    then tables Test.Key 5 (day .counts) (col numbers)
-    then tables Test.Mdq 4 (day .counts) (col numbers)
+    then rows-check (day .counts) (col numbers)
 
 unfoldable pub check : Day → List ℕ → ℕ → Check
 check day numbers room = sound day numbers then keep (leb (file-size (day .counts)) room) 7

@@ -10,16 +10,27 @@ use units::Check;
 use units::MOST_GIGAJOULES;
 ghost use mathlib.Core.Path.{_≡_};
 ghost use Rattle.columns.specs.Column.{col};
-ghost use Rattle.daywriter.specs.Acceptance.{singles, tables, sound};
+ghost use Rattle.daywriter.specs.Acceptance.{singles, tables, rows-check, sound};
 
-// 9, 3, 5 and 4.
+// 9, 3, 5 and 4. The rows are looked at where the counts are within their bounds.
 pub fn examine(day: Day, numbers: &[usize]) -> Check
     ensures { λ r. ⌜ r ≡ sound day (now (numbers .entry)) ⌝ }
 {
     let counts = day.counts;
-    Check::Accepted
+    let singles = Check::Accepted
         .keep(numbers.len() == numbers_of(counts), 9)
-        .then(examine_singles(day))
+        .then(examine_singles(day));
+    match singles {
+        Check::Refused(refusal) => Check::Refused(refusal),
+        Check::Accepted => examine_rows(counts, numbers),
+    }
+}
+
+// 3, 5 and 4 of the rows, of which there are then few.
+fn examine_rows(counts: Counts, numbers: &[usize]) -> Check
+    ensures { λ r. ⌜ r ≡ rows-check counts (col (now (numbers .entry))) ⌝ }
+{
+    Check::Accepted
         .then(examine_tables(Test::Bounds, 3, counts, numbers))
         .then(examine_tables(Test::Key, 5, counts, numbers))
         .then(examine_tables(Test::Mdq, 4, counts, numbers))

@@ -1,6 +1,13 @@
--- The code is the chain of tests as it is defined.
+-- A refusal of the count of numbers or of a single figure is the day's; else its rows decide.
+use mathlib.Core.Path.{_≡_}
+use lib.Dec.{eqb}
+use lib.ListN.{length}
+use Rattle.units.specs.declared.refusal.Check.{Check}
+use Rattle.units.specs.Refusals.{_then_, keep}
+use Rattle.dayformat.specs.Layout.{numbers-in}
+use Rattle.daywriter.specs.Acceptance.{singles}
+use Rattle.daywriter.proofs.Examining.{singles-refuse, rows-decide}
 use borrow.Author.Needs.{needs}
-use Rattle.daywriter.specs.Acceptance.{sound}
 use Rattle.daywriter.proofs.examine.examine.Statement.{statement}
 use Rattle.daywriter.proofs.examine.examine.Tie as tie
 
@@ -16,43 +23,39 @@ examine-singles-requires c κs = search needs
 then-requires : tie.Need-then-requires
 then-requires c κs = search needs
 
-examine-tables-requires : tie.Need-examine-tables-requires
-examine-tables-requires c κs = search needs
+enum-known-singles : tie.Need-enum-known-singles
+enum-known-singles c = search needs
 
-then-requires-2 : tie.Need-then-requires-2
-then-requires-2 c κs = search needs
+enum-told : tie.Need-enum-told
+enum-told c = search needs
 
-examine-tables-requires-2 : tie.Need-examine-tables-requires-2
-examine-tables-requires-2 c κs = search needs
+examine-rows-requires : tie.Need-examine-rows-requires
+examine-rows-requires c κs = search needs
 
-then-requires-3 : tie.Need-then-requires-3
-then-requires-3 c κs = search needs
-
-examine-tables-requires-3 : tie.Need-examine-tables-requires-3
-examine-tables-requires-3 c κs = search needs
-
-then-requires-4 : tie.Need-then-requires-4
-then-requires-4 c κs = search needs
+first : (c : tie.After-then)
+    → c .then .result
+    ≡ (Check.Accepted
+    then keep (eqb (length (c .before .before .before .before .before .before .args .numbers .now))
+    (numbers-in (c .before .before .before .before .before .before .args .day .counts))) 9
+    then singles (c .before .before .before .before .before .before .args .day))
+first c =
+    rw (
+      c .then .ensures,
+      c .before .examine-singles .ensures,
+      c .before .before .keep .ensures,
+      c .before .before .before .numbers-of .ensures .0,
+    )
 
 returns : tie.Need-returns
-unfolding sound
 returns c =
-    let mdqs = c .before in
-    let keys = mdqs .before .before in
-    let bounds = keys .before .before in
-    let singles = bounds .before .before in
-    rw (
-      c .then4 .ensures,
-      mdqs .examine-tables3 .ensures,
-      mdqs .before .then3 .ensures,
-      keys .examine-tables2 .ensures,
-      keys .before .then2 .ensures,
-      bounds .examine-tables .ensures,
-      bounds .before .then .ensures,
-      singles .examine-singles .ensures,
-      singles .before .keep .ensures,
-      singles .before .before .numbers-of .ensures .0,
-    )
+    let args = (c .before .before .before) .before .before .before .before .before .before .args in
+    singles-refuse (args .day) (args .numbers .now) (first (c .before .before .before)) (c .before .singles .given .1)
+
+returns-2 : tie.Need-returns-2
+returns-2 c =
+    let told = c .before in
+    let args = (told .before .before) .before .before .before .before .before .before .args in
+    rows-decide (args .day) (args .numbers .now) (first (told .before .before)) (told .enum-told .given .1) (c .examine-rows .ensures)
 
 pub examine-spec : {M : Type 1} → statement M
 examine-spec =
@@ -62,10 +65,8 @@ examine-spec =
     keep-requires
     examine-singles-requires
     then-requires
-    examine-tables-requires
-    then-requires-2
-    examine-tables-requires-2
-    then-requires-3
-    examine-tables-requires-3
-    then-requires-4
-    returns)
+    enum-known-singles
+    enum-told
+    examine-rows-requires
+    returns
+    returns-2)

@@ -1,0 +1,4 @@
+pub mod Bounds
+pub mod Writing
+pub mod Answers
+pub mod Determined

@@ -1,0 +1,3 @@
+pub mod Meter
+pub mod Figures
+pub mod Hours

@@ -1,0 +1,34 @@
+-- The meter table: where a row's numbers stand, and its tests.
+use mathlib.Core.Path.{_≡_}
+use mathlib.Core.Bool.{false}
+use mathlib.Core.List.{List}
+use Prim.Native.Nat.{ℕ, _+_, _<_}
+use Rattle.units.specs.declared.refusal.Check.{Check}
+use Rattle.dayformat.specs.declared.form.Tag.the-variants.{Meter}
+use Rattle.dayformat.specs.declared.layout.Counts.{Counts}
+use Rattle.dayformat.specs.Format.{form}
+use Rattle.dayvalues.specs.Row.{number-at, beyond, row-check}
+
+-- refused: 9; 3 a row beyond the count, one of its numbers
+abbrev pub meter-check : Counts → List ℕ → ℕ → Check
+meter-check counts numbers row = row-check counts numbers Meter row
+
+abbrev pub meter-at : Counts → (ℕ → ℕ) → ℕ → ℕ → ℕ
+meter-at counts numbers row place = number-at counts numbers Meter row place
+
+-- tag 5: shipper, P, M, 11 delivered hours of yesterday, 24 delivered, 24 received, the single figures of both sides
+abbrev pub yesterday-at : ℕ
+yesterday-at = 3
+
+abbrev pub delivered-at : ℕ
+delivered-at = yesterday-at + 11
+
+abbrev pub received-at : ℕ
+received-at = delivered-at + 24
+
+abbrev pub sides-at : ℕ
+sides-at = received-at + 24
+
+-- every number of the row is within its bounds
+abbrev pub Bounded : Counts → (ℕ → ℕ) → ℕ → Type 0
+Bounded counts numbers row = (place : ℕ) → place < form Meter .columns → beyond counts numbers Meter row place ≡ false

@@ -1,0 +1,6 @@
+pub mod Bounds
+pub mod Rows
+pub mod Accepting
+pub mod Answers
+pub mod Determined
+pub mod Examining

@@ -1,0 +1,4 @@
+pub mod Row
+pub mod Column
+pub mod Shippers
+pub mod Points

@@ -1,0 +1,34 @@
+-- A row of a day's table: its numbers, and its tests.
+use mathlib.Core.Bool.{Bool, cond, not}
+use mathlib.Core.List.{List}
+use Prim.Native.Nat.{ℕ, _+_}
+use lib.Dec.{ltb, eqb}
+use lib.ListN.{length}
+use Rattle.columns.specs.Column.{col}
+use Rattle.units.specs.declared.refusal.Check.{Check}
+use Rattle.units.specs.Refusals.{_then_, keep, clear}
+use Rattle.dayformat.specs.declared.form.Tag.{Tag}
+use Rattle.dayformat.specs.declared.layout.Counts.{Counts}
+use Rattle.dayformat.specs.Format.{body, column-in}
+use Rattle.dayformat.specs.Layout.{count, row-start, numbers-in}
+use Rattle.dayrows.specs.Test.{within, bounded}
+
+-- the number at a place of a row
+abbrev pub number-at : Counts → (ℕ → ℕ) → Tag → ℕ → ℕ → ℕ
+number-at counts numbers tag row place = numbers (row-start counts tag row + place)
+
+-- it is beyond its bounds
+unfoldable pub beyond : Counts → (ℕ → ℕ) → Tag → ℕ → ℕ → Bool
+beyond counts numbers tag row place = not (within (column-in (body tag) place) (number-at counts numbers tag row place))
+
+-- the row, where one of its numbers is; else the number of rows
+unfoldable pub beyond-row : Counts → (ℕ → ℕ) → Tag → ℕ → ℕ
+beyond-row counts numbers tag row = cond (bounded numbers tag (row-start counts tag row)) (count counts tag) row
+
+-- refused: 9 not as many numbers as the counts say; 3 a row beyond the count, one of its numbers
+unfoldable pub row-check : Counts → List ℕ → Tag → ℕ → Check
+row-check counts numbers tag row =
+    Check.Accepted
+    then keep (eqb (length numbers) (numbers-in counts)) 9
+    then keep (ltb row (count counts tag)) 3
+    then clear (count counts tag) (beyond-row counts (col numbers) tag row) 3

@@ -1,0 +1,145 @@
+-- What the reader accepts, the day's shares accept.
+use mathlib.Core.Path.{_≡_, refl, ap, sym, _∙_}
+use mathlib.Core.Bool.{Bool, true, false, cond, not, true≢false}
+use mathlib.Core.List.{List}
+use Prim.Native.Nat.{ℕ, _-_, _≤_, _<_}
+use native.Mathlib.Nat.{le-of-eq}
+use native.Mathlib.Omega.{arith}
+use borrow.Author.Tests.{eq-eqb, le-leb, le-ltb, lt-ltb}
+use lib.ListN.{length}
+use Rattle.columns.specs.Column.{col, listed}
+use Rattle.columns.proofs.Firsts.{first-none}
+use Rattle.columns.proofs.Lists.{length-listed, col-listed}
+use Rattle.units.specs.declared.refusal.Check.{Check}
+use Rattle.units.specs.Bound.{most-gigajoules}
+use Rattle.units.specs.Refusals.{within, clear}
+use Rattle.units.proofs.Checks.{accepts-both, accepts-kept, accepts-clear, accepts-within}
+use Rattle.daytable.specs.Table.{Table, rows}
+use Rattle.daytable.specs.Acceptance.{lengths, figures, idle, first-idle, check}
+use Rattle.dayformat.specs.declared.day.Day.{Day}
+use Rattle.dayformat.specs.declared.form.Tag.the-variants.{Shipper}
+use Rattle.dayformat.specs.Format.{body, column-in}
+use Rattle.dayformat.specs.Layout.{count}
+use Rattle.dayrows.specs.declared.Source.the-variants.{File}
+use Rattle.dayrows.specs.declared.Test.the-variants as Test
+use Rattle.dayrows.specs.Test.{starved, passes}
+use Rattle.dayrows.proofs.Within.{passes-bounded, within-bounds}
+use Rattle.daywriter.proofs.Accepting.{Sound}
+use Rattle.dayvalues.specs.Column.{column}
+use Rattle.dayvalues.specs.Column as values
+use Rattle.dayvalues.specs.Row.{beyond}
+use Rattle.listings.specs.DayTable.{table-of}
+
+-- one of two that are not
+neither : (a b : Bool) → not (cond a true b) ≡ true → (a ≡ false) × (b ≡ false)
+neither true b e = absurd (true≢false (sym e))
+neither false true e = absurd (true≢false (sym e))
+neither false false e = (refl, refl)
+
+module _ (day : Day) (numbers : List ℕ) (S : Sound day numbers) where
+  abbrev T : Table
+  T = table-of day (col numbers)
+
+  abbrev many : ℕ
+  many = count (day .counts) Shipper
+
+  abbrev figure : ℕ → ℕ → ℕ
+  figure place = column (day .counts) (col numbers) place
+
+  -- ---- 3: a column of gigajoules is within its bound
+  bounded : (place : ℕ) → 0 < place → place < 6 → (row : ℕ) → row < many → figure place row ≤ most-gigajoules
+  unfolding column-in
+  bounded place some few row l =
+      let kind = within-bounds (column-in (body Shipper) place) (figure place row)
+      (passes-bounded File (day .counts) (col numbers) Shipper row (S .passes Shipper tt Test.Bounds row l) .1 place few) .1
+      in omega (arith, kind, kind-is)
+    where
+      kind-is : column-in (body Shipper) place .high ≡ most-gigajoules
+      kind-is = rw (le-ltb place 1 some, lt-ltb (place - 1) 5 (omega (arith, some, few)))
+
+  column-within : (place : ℕ) → 0 < place → place < 6 → within most-gigajoules (listed many (figure place)) ≡ Check.Accepted
+  column-within place some few =
+      accepts-within most-gigajoules (listed many (figure place))
+      (λ row l.
+      let inside : row < many = rw length-listed at l in
+      rw (col-listed many (figure place) row inside) (bounded place some few row inside))
+
+  -- ---- 4: no schedule without its MDQ
+  fed : (row : ℕ) → row < many → (idle (figure 1 row) (figure 3 row) ≡ false) × (idle (figure 2 row) (figure 4 row) ≡ false)
+  unfolding passes starved
+  fed row l = neither _ _ (S .passes Shipper tt Test.Mdq row l)
+
+  none-idle : (mdq schedule : ℕ) → ((row : ℕ) → row < many → idle (figure mdq row) (figure schedule row) ≡ false)
+      → clear (rows T) (first-idle (listed many (figure mdq)) (listed many (figure schedule))) 4 ≡ Check.Accepted
+  none-idle mdq schedule fed =
+      accepts-clear _ _ _
+      (le-of-eq
+      (length-listed _ _
+      ∙ sym
+      (length-listed _ _)
+      ∙ sym
+      (first-none (λ row. idle (col (listed many (figure mdq)) row) (col (listed many (figure schedule)) row)) (length (listed many (figure mdq)))
+      (λ row l.
+      let inside : row < many = rw length-listed at l in
+      rw (col-listed many (figure mdq) row inside, col-listed many (figure schedule) row inside) (fed row inside)))))
+
+  -- ---- 9: the five columns are as long as one another
+  as-long : (f g : ℕ → ℕ) → length (listed many f) ≡ length (listed many g)
+  as-long f g = length-listed many f ∙ sym (length-listed many g)
+
+  long : lengths T ≡ Check.Accepted
+  unfolding lengths
+  long =
+      accepts-both
+      (accepts-both
+      (accepts-both (accepts-both refl (accepts-kept 9 (eq-eqb _ _ (as-long (figure 1) (figure 2))))) (accepts-kept 9 (eq-eqb _ _ (as-long (figure 1) (figure 3)))))
+      (accepts-kept 9 (eq-eqb _ _ (as-long (figure 1) (figure 4)))))
+      (accepts-kept 9 (eq-eqb _ _ (as-long (figure 1) (figure 5))))
+
+  few-rows : rows T ≤ 64
+  few-rows = rw length-listed (S .few Shipper)
+
+  within-bound : figures T ≡ Check.Accepted
+  unfolding figures
+  within-bound =
+      accepts-both
+      (accepts-both
+      (accepts-both
+      (accepts-both
+      (accepts-both
+      (accepts-both
+      (accepts-both (accepts-both refl (accepts-kept 3 (le-leb _ _ (S .free-flow)))) (accepts-kept 3 (le-leb _ _ (S .compressor))))
+      (accepts-kept 3 (le-leb _ _ few-rows)))
+      (column-within 1 (omega arith) (omega arith)))
+      (column-within 2 (omega arith) (omega arith)))
+      (column-within 3 (omega arith) (omega arith)))
+      (column-within 4 (omega arith) (omega arith)))
+      (column-within 5 (omega arith) (omega arith))
+
+  -- with room for every table's rows
+  pub shares-accept : (firm auction lower-tier : ℕ) → 64 ≤ firm → 64 ≤ auction → 64 ≤ lower-tier → check T firm auction lower-tier ≡ Check.Accepted
+  unfolding check
+  shares-accept firm auction lower-tier f a l =
+      accepts-both
+      (accepts-both
+      (accepts-both
+      (accepts-both (accepts-both (accepts-both long within-bound) (none-idle 1 3 (λ row l. fed row l .0))) (none-idle 2 4 (λ row l. fed row l .1)))
+      (accepts-kept 7 (le-leb (rows T) firm (omega (arith, few-rows, f)))))
+      (accepts-kept 7 (le-leb (rows T) auction (omega (arith, few-rows, a)))))
+      (accepts-kept 7 (le-leb (rows T) lower-tier (omega (arith, few-rows, l))))
+
+  -- ---- and each column can be had by itself
+  pub column-accepts : (place room : ℕ) → place < 6 → 64 ≤ room → values.check (day .counts) numbers place room ≡ Check.Accepted
+  unfolding values.check beyond
+  column-accepts place room few l =
+      accepts-both
+      (accepts-both
+      (accepts-both (accepts-both refl (accepts-kept 9 (eq-eqb _ _ (S .long)))) (accepts-kept 3 (le-leb many 64 (S .few Shipper))))
+      (accepts-clear _ _ _
+      (le-of-eq
+      (sym
+      (first-none (λ row. beyond (day .counts) (col numbers) Shipper row place) many
+      (λ row k.
+      ap not
+      (passes-bounded File (day .counts) (col numbers) Shipper row (S .passes Shipper tt Test.Bounds row k) .1 place few)))))))
+      (accepts-kept 7 (le-leb many room (omega (arith, S .few Shipper, l))))
