@@ -32,7 +32,7 @@ use Rattle.daywriter.proofs.Accepting.{Sound}
 use Rattle.daywriter.proofs.Sizes.{length-fields}
 use Rattle.roundtrip.proofs.Above.{Above}
 use Rattle.roundtrip.proofs.Agreeing.{Agree, agree-earlier, agree-with, table-inside}
-use Rattle.roundtrip.proofs.Fronting.{Leads, leads-more}
+use Rattle.roundtrip.proofs.Leading.{Leads, leads-more}
 use Rattle.roundtrip.proofs.WrittenRuns.{Written, rows-again, run-again}
 
 module _ (day : Day) (numbers : List ℕ) (S : Sound day numbers) where

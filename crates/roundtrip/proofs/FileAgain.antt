@@ -36,7 +36,7 @@ use Rattle.daywriter.specs.Acceptance.{sound}
 use Rattle.daywriter.proofs.Accepting.{accepts}
 use Rattle.roundtrip.proofs.Agreeing.{Agree, agree-same}
 use Rattle.roundtrip.proofs.FieldsThere.{field-there}
-use Rattle.roundtrip.proofs.Fronting.{Leads}
+use Rattle.roundtrip.proofs.Leading.{Leads}
 use Rattle.roundtrip.proofs.Rereading.{tabled-none, All-pass, Reread, reread-more}
 
 -- ---- the head

@@ -4,8 +4,8 @@ pub mod DayAgain
 pub mod Exact
 pub mod FieldsThere
 pub mod FileAgain
-pub mod Fronting
 pub mod HeadAgain
+pub mod Leading
 pub mod OnRoutines
 pub mod Rereading
 pub mod RoundTrips

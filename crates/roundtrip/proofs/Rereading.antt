@@ -29,7 +29,7 @@ use Rattle.dayformat.proofs.Small.{Table}
 use Rattle.dayfile.proofs.Rooms.{before, Few, None-after, few-with, none-with, starts-after, grown}
 use Rattle.daywriter.specs.Written.{row-from, fields}
 use Rattle.roundtrip.proofs.Agreeing.{Agree, agree-before, agree-rows, agree-earlier}
-use Rattle.roundtrip.proofs.Fronting.{Leads, leads-append, leads-trans, row-stands}
+use Rattle.roundtrip.proofs.Leading.{Leads, leads-append, leads-trans, row-stands}
 use Rattle.roundtrip.proofs.SoundRuns.{run-bytes, run-passes}
 
 -- a run after which there is no fault had none before it

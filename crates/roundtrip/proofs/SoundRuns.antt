@@ -22,7 +22,7 @@ use Rattle.dayruns.specs.Run.{Fields, place-of, row-of, rows-of, field-fault, s
 use Rattle.dayruns.proofs.Breaking.{Whole, broken-none}
 use Rattle.dayruns.proofs.Running.{field-none, goes-sound, length-row}
 use Rattle.roundtrip.proofs.FieldsThere.{field-there}
-use Rattle.roundtrip.proofs.Fronting.{Leads, leads-trans, leads-rows}
+use Rattle.roundtrip.proofs.Leading.{Leads, leads-trans, leads-rows}
 
 module _ (F : Fields) (read : ℕ → ℕ → ℕ) where
   -- every field before the run's end is sound
