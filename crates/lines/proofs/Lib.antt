@@ -1,0 +1,4 @@
+pub mod Lining
+pub mod Answers
+pub mod Determined
+pub mod Figures
