@@ -65,6 +65,10 @@ lining-next {bytes = bytes} {list = list} {at = at} {size = size} L a =
       long = ap length (a .lays) ∙ length-sets list (at + size) bytes ∙ L .long;
     }
 
+-- for callers: nothing is ahead
+pub lining-all : {whole lent list : List ℕ} {at size : ℕ} → Lining whole lent at [] list size → Laid whole lent at size list
+lining-all L = rw add-zero at (L .finishes (record { counts = refl; lays = refl }))
+
 -- ---- figures: all but the last with a space behind, the last with the line end
 pub figures-none : (figures : List ℕ) {lent after : List ℕ} {at : ℕ} → length figures ≡ 0 → after ≡ set lent (at + 0) 10
     → Laid (line (decimals figures)) lent at 1 after

@@ -1,1 +1,4 @@
+pub mod ChargesAccept
+pub mod OverrunsAccept
+pub mod ReadSound
 pub mod SharesAccept

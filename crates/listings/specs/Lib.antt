@@ -1,1 +1,2 @@
 pub mod DayTable
+pub mod MeterDay
