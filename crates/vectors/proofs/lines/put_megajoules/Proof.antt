@@ -1,0 +1,61 @@
+use Prim.Native.Nat.{_-_, _≤_}
+use borrow.Author.Needs.{needs}
+use Rattle.vectors.proofs.lines.put_megajoules.Statement.{statement}
+use Rattle.vectors.proofs.lines.put_megajoules.Tie as tie
+
+abbrev Inv-loop : tie.InvT-loop
+Inv-loop lent room row₀ row-end row = (row ≤ row-end) × (row-end ≤ 65)
+
+abbrev μ-loop : tie.MeasureT-loop
+μ-loop lent room row₀ row-end row = row-end - row
+
+slice-aggregate-write-all : tie.Need-slice-aggregate-write-all Inv-loop μ-loop
+slice-aggregate-write-all c = search needs
+
+write-all-requires : tie.Need-write-all-requires Inv-loop μ-loop
+write-all-requires c κs = search needs
+
+smaller-requires : tie.Need-smaller-requires Inv-loop μ-loop
+smaller-requires c κs = search needs
+
+loop-holds : tie.Need-loop-holds Inv-loop μ-loop
+loop-holds c = search needs
+
+mul-put : tie.Need-mul-put Inv-loop μ-loop
+mul-put c = search needs
+
+element-copy-out-put : tie.Need-element-copy-out-put Inv-loop μ-loop
+element-copy-out-put c = search needs
+
+put-requires : tie.Need-put-requires Inv-loop μ-loop
+put-requires c κs = search needs
+
+add-row : tie.Need-add-row Inv-loop μ-loop
+add-row c = search needs
+
+loop-less : tie.Need-loop-less Inv-loop μ-loop
+loop-less c = search needs
+
+loop-again : tie.Need-loop-again Inv-loop μ-loop
+loop-again c = search needs
+
+returns : tie.Need-returns Inv-loop μ-loop
+returns c = search needs
+
+pub put-megajoules-spec : {M : Type 1} → statement M
+put-megajoules-spec =
+    tie.close
+    (tie.spec
+    Inv-loop
+    μ-loop
+    slice-aggregate-write-all
+    write-all-requires
+    smaller-requires
+    loop-holds
+    mul-put
+    element-copy-out-put
+    put-requires
+    add-row
+    loop-less
+    loop-again
+    returns)

@@ -1,0 +1,39 @@
+// A line of the answers: 01's number and place, the figures where it is accepted, and each lent list whole.
+use crate::words::MOST_ROWS;
+use crate::words::smaller;
+use units::Refusal;
+
+pub fn put(figure: u64) {
+    io::write_all(1, b" ");
+    io::print_decimal(1, figure);
+}
+
+pub fn put_accepted() {
+    put(0);
+    put(0);
+}
+
+pub fn put_refusal(refusal: Refusal) {
+    put(refusal.number as u64);
+    put(refusal.place as u64);
+}
+
+// A lent list as it is after the call.
+pub fn put_gigajoules(lent: &[u32; MOST_ROWS], room: usize) {
+    io::write_all(1, b" :");
+    for row in 0..smaller(room, MOST_ROWS) {
+        put(wide(lent[row]));
+    }
+}
+
+// The same of megajoules.
+pub fn put_megajoules(lent: &[u64; MOST_ROWS], room: usize) {
+    io::write_all(1, b" :");
+    for row in 0..smaller(room, MOST_ROWS) {
+        put(lent[row]);
+    }
+}
+
+fn wide(figure: u32) -> u64 {
+    figure as u64
+}

@@ -1,0 +1,80 @@
+// A case as words of 32 bits. What lies past its end is zero, or no list.
+ghost use Prim.Native.Nat.{_≤_};
+
+// No case has more words.
+pub const MOST_WORDS: usize = 512;
+
+// No list has more rows, and no lent list more room: one more than a list of shippers may have.
+pub const MOST_ROWS: usize = 65;
+
+// The smaller of a count and the most that there may be.
+pub fn smaller(count: usize, most: usize) -> usize
+    ensures { λ r. ⌜ r ≤ most ⌝ }
+{
+    if count < most {
+        return count;
+    }
+    most
+}
+
+// The words that a case's bytes spell.
+pub fn words_of(body: &[u8; 4 * MOST_WORDS]) -> [u32; MOST_WORDS] {
+    let mut words = [0u32; MOST_WORDS];
+    for place in 0..MOST_WORDS {
+        words[place] = bigendian::number_at(body, 4 * place, 4);
+    }
+    words
+}
+
+pub fn word(case: &[u32], place: usize) -> u32 {
+    if case.len() <= place {
+        return 0;
+    }
+    case[place]
+}
+
+// What follows so many words.
+pub fn past(case: &[u32], count: usize) -> &[u32] {
+    if case.len() <= count {
+        return &case[..0];
+    }
+    &case[count..]
+}
+
+// The list that stands first: how many words it has, then the words.
+pub fn list(case: &[u32]) -> &[u32] {
+    let words = past(case, 1);
+    let count = word(case, 0) as usize;
+    if words.len() <= count {
+        return words;
+    }
+    &words[0..count]
+}
+
+// What follows that list.
+pub fn past_list(case: &[u32]) -> &[u32] {
+    past(case, 1 + word(case, 0) as usize)
+}
+
+// The number of 64 bits that the first two words make.
+pub fn wide(case: &[u32]) -> u64 {
+    (word(case, 0) as u64) * 4_294_967_296 + word(case, 1) as u64
+}
+
+// A number whose first word says whether it is below zero, and whose second how far from it.
+pub fn signed(case: &[u32]) -> i64 {
+    let size = word(case, 1) as i64;
+    if word(case, 0) == 0 {
+        return size;
+    }
+    -size
+}
+
+// The numbers of 64 bits of a list of pairs.
+pub fn megajoules_of(pairs: &[u32]) -> [u64; MOST_ROWS] {
+    let mut figures = [0u64; MOST_ROWS];
+    for row in 0..MOST_ROWS {
+        figures[row] = wide(past(pairs, 2 * row));
+    }
+    figures
+}
