@@ -7,10 +7,19 @@ python3 reference/vectors.py --check    fails where they are not what is stored
 import pathlib
 import sys
 
+import chargecases
+import gascases
+import overruncases
 import sharecases
 from cases import answer_of, cases_of
 
-ROUTINES = sharecases.ROUTINES
+# A routine's number is its place from 1: further ones go last.
+ROUTINES = (
+    *sharecases.ROUTINES,
+    *gascases.ROUTINES,
+    *overruncases.ROUTINES,
+    *chargecases.ROUTINES,
+)
 
 STORED = pathlib.Path(__file__).resolve().parent.parent / "crates" / "vectors"
 

@@ -1,6 +1,5 @@
 // Charges, and the escalation of rates.
-use crate::lines::put;
-use crate::lines::put_accepted;
+use crate::lines::put_figures;
 use crate::lines::put_refusal;
 use crate::words::past;
 use crate::words::wide;
@@ -24,8 +23,7 @@ fn put_charge(charge: Charge) {
     match charge {
         Charge::Refused(refusal) => put_refusal(refusal),
         Charge::Charged(cents) => {
-            put_accepted();
-            put(cents.0);
+            put_figures(&[0, 0, cents.0]);
         }
     }
 }
@@ -56,8 +54,7 @@ pub fn answer_escalation(case: &[u32]) {
     match escalation {
         Escalation::Refused(refusal) => put_refusal(refusal),
         Escalation::Escalated(rate) => {
-            put_accepted();
-            put(rate.0 as u64);
+            put_figures(&[0, 0, rate.0 as u64]);
         }
     }
 }

@@ -1,6 +1,5 @@
 // An hour at a point, and system use gas.
-use crate::lines::put;
-use crate::lines::put_accepted;
+use crate::lines::put_figures;
 use crate::lines::put_megajoules;
 use crate::lines::put_refusal;
 use crate::words::MOST_ROWS;
@@ -39,8 +38,7 @@ pub fn answer_hour(case: &[u32]) {
     match hour {
         Hour::Refused(refusal) => put_refusal(refusal),
         Hour::Shared(given) => {
-            put_accepted();
-            put(given.0);
+            put_figures(&[0, 0, given.0]);
         }
     }
     put_megajoules(&shares, room);
@@ -78,8 +76,7 @@ fn put_gas(gas: UseGas) {
     match gas {
         UseGas::Refused(refusal) => put_refusal(refusal),
         UseGas::Shared(given) => {
-            put_accepted();
-            put(given.0);
+            put_figures(&[0, 0, given.0]);
         }
     }
 }
@@ -94,8 +91,7 @@ pub fn answer_fuel(case: &[u32]) {
     match fuel {
         ImbalanceFuel::Refused(refusal) => put_refusal(refusal),
         ImbalanceFuel::Supplied(supplied) => {
-            put_accepted();
-            put(supplied.0);
+            put_figures(&[0, 0, supplied.0]);
         }
     }
 }

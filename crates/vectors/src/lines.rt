@@ -3,19 +3,19 @@ use crate::words::MOST_ROWS;
 use crate::words::smaller;
 use units::Refusal;
 
-pub fn put(figure: u64) {
+fn put(figure: u64) {
     io::write_all(1, b" ");
     io::print_decimal(1, figure);
 }
 
-pub fn put_accepted() {
-    put(0);
-    put(0);
+pub fn put_figures(figures: &[u64]) {
+    for place in 0..figures.len() {
+        put(figures[place]);
+    }
 }
 
 pub fn put_refusal(refusal: Refusal) {
-    put(refusal.number as u64);
-    put(refusal.place as u64);
+    put_figures(&[refusal.number as u64, refusal.place as u64]);
 }
 
 // A lent list as it is after the call.

@@ -1,6 +1,5 @@
 // The overruns of a day.
-use crate::lines::put;
-use crate::lines::put_accepted;
+use crate::lines::put_figures;
 use crate::lines::put_refusal;
 use crate::words::MOST_ROWS;
 use crate::words::list;
@@ -55,8 +54,7 @@ fn put_overrun(overrun: Overrun) {
     match overrun {
         Overrun::Refused(refusal) => put_refusal(refusal),
         Overrun::Over(over) => {
-            put_accepted();
-            put(over.0);
+            put_figures(&[0, 0, over.0]);
         }
     }
 }
@@ -90,9 +88,7 @@ pub fn answer_daily(case: &[u32]) {
     match daily {
         DailyOverruns::Refused(refusal) => put_refusal(refusal),
         DailyOverruns::Over(over) => {
-            put_accepted();
-            put(over.receipt.0);
-            put(over.delivery.0);
+            put_figures(&[0, 0, over.receipt.0, over.delivery.0]);
         }
     }
 }
@@ -114,10 +110,15 @@ pub fn answer_overruns(case: &[u32]) {
 }
 
 fn put_overruns(over: Overruns) {
-    put_accepted();
-    put(over.hourly.0);
-    put(over.twelve_hourly.0);
-    put(over.daily_receipt.0);
-    put(over.daily_delivery.0);
-    put(over.greatest.0);
+    put_figures(
+        &[
+            0,
+            0,
+            over.hourly.0,
+            over.twelve_hourly.0,
+            over.daily_receipt.0,
+            over.daily_delivery.0,
+            over.greatest.0,
+        ],
+    );
 }

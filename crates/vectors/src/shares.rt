@@ -1,6 +1,5 @@
 // One sharing round, and a day's shares.
-use crate::lines::put;
-use crate::lines::put_accepted;
+use crate::lines::put_figures;
 use crate::lines::put_gigajoules;
 use crate::lines::put_refusal;
 use crate::words::MOST_ROWS;
@@ -32,9 +31,7 @@ pub fn answer_round(case: &[u32]) {
     match round {
         Round::Refused(refusal) => put_refusal(refusal),
         Round::Shared(given) => {
-            put_accepted();
-            put(given.level);
-            put(given.total.0 as u64);
+            put_figures(&[0, 0, given.level, given.total.0 as u64]);
         }
     }
     put_gigajoules(&shares, room);
@@ -84,15 +81,20 @@ fn share_day(case: &[u32], firm: &mut [u32], auction: &mut [u32], lower_tier: &m
 }
 
 fn put_day(shares: Shares) {
-    put_accepted();
     let levels = shares.levels;
-    put(levels.one);
-    put(levels.two);
-    put(levels.three);
-    put(levels.auction);
-    put(levels.lower_tier);
-    put(shares.firm.0 as u64);
-    put(shares.auction.0 as u64);
-    put(shares.lower_tier.0 as u64);
-    put(shares.left.0 as u64);
+    put_figures(
+        &[
+            0,
+            0,
+            levels.one,
+            levels.two,
+            levels.three,
+            levels.auction,
+            levels.lower_tier,
+            shares.firm.0 as u64,
+            shares.auction.0 as u64,
+            shares.lower_tier.0 as u64,
+            shares.left.0 as u64,
+        ],
+    );
 }
