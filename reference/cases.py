@@ -80,13 +80,13 @@ class Figure(NamedTuple):
 
 
 class Room(NamedTuple):
-    """How many elements are lent."""
+    """How many elements are lent: as many as the answer has, or one more."""
 
     def words(self, room):
         return word(room)
 
     def edges(self, room):
-        return [0, room - 1, room, room + 1]
+        return [0, *range(room - 2, room + 2)]
 
 
 class Hours(NamedTuple):
@@ -166,8 +166,6 @@ def cases_of(routine):
     given = [routine.some(chance, rows) for rows in ROWS]
     sound = next(case for case in given if is_accepted(routine, case))
     edges = changes(routine, sound)
-    single = [
-        put(sound, index, edge) for index, places in enumerate(edges) for edge in places
-    ]
+    single = [put(sound, index, edge) for index, places in enumerate(edges) for edge in places]
     pairs = [two_changed(chance, edges, sound) for _ in range(PAIRS)]
     return [*map(list, routine.further), *given, *single, *pairs]

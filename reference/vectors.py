@@ -21,7 +21,7 @@ ROUTINES = (
     *chargecases.ROUTINES,
 )
 
-STORED = pathlib.Path(__file__).resolve().parent.parent / "crates" / "vectors"
+STORED = pathlib.Path(__file__).resolve().parent.parent.joinpath("crates", "vectors")
 
 
 def input_of(number, routine, case):
@@ -57,7 +57,7 @@ def main():
     if sys.argv[1:] not in ([], ["--check"]):
         sys.exit(__doc__)
     for name, content in made().items():
-        stored = STORED / name
+        stored = STORED.joinpath(name)
         if not sys.argv[1:]:
             stored.write_bytes(content)
         elif stored.read_bytes() != content:

@@ -15,11 +15,6 @@ class RuleTest(unittest.TestCase):
         self.assertEqual((number, place), (caught.exception.number, caught.exception.place))
 
 
-def put(figures, index, figure):
-    """A list with one figure put in place of another."""
-    return [*figures[:index], figure, *figures[index + 1 :]]
-
-
 def meter(shipper, p=0, m=0, delivered=0, received=0, schedules=(0, 0, 0, 0), backhaul=(0, 0)):
     """A tag 5 row with one figure for all hours of a side."""
     return (shipper, p, m, *[delivered] * 35, *[received] * 24, *schedules, *backhaul)
@@ -42,13 +37,6 @@ def full_day():
         [(*point, 100_000_000) for point in points],
         [(*point, name, 100_000_000 - name) for point in points for name in names[5:21]],
         [meter(name, *greatest, [1_000_000] * 4, [2_400_000_000] * 2) for name in names],
-    )
-
-
-def some(random, bound):
-    """A number of the bound: often its least, its greatest or a small one."""
-    return random.choice(
-        (bound[0], bound[-1], min(bound[-1], random.randint(1, 20)), random.choice(bound))
     )
 
 

@@ -4,6 +4,7 @@ import random
 import unittest
 
 from bounds import DAY_NUMBER, GIGAJOULES, MEGAJOULES, ROUND_CAPACITY, SYSTEM_USE
+from cases import some, some_rows
 from dayfile import read_day, write_day
 from dayformat import FORMS, METER
 from dayshares import free_flow_mdq, share_day
@@ -11,23 +12,16 @@ from overruns import Sides, hourly_overrun, twelve_hourly_overrun
 from pointshares import hour_at_point
 from refusals import Refusal
 from rounds import GREATEST_LEVEL, one_round, shares_at
-from support import make_day, some, some_names
+from sharecases import below
+from support import make_day, some_names
 from usegas import general_gas
-
-
-def some_list(chance, bound, rows):
-    return [some(chance, bound) for _ in range(rows)]
-
-
-def below(chance, mdqs):
-    """Schedules that ask nothing of a zero MDQ."""
-    return [some(chance, GIGAJOULES) if mdq > 0 else 0 for mdq in mdqs]
 
 
 def some_shippers(chance, greatest_count=6):
     names = some_names(chance, greatest_count)
-    firm, auction, lower = (some_list(chance, GIGAJOULES, len(names)) for _ in range(3))
-    return list(zip(names, firm, auction, below(chance, firm), below(chance, auction), lower))
+    firm, auction, lower = (some_rows(chance, GIGAJOULES, len(names)) for _ in range(3))
+    schedules = (below(chance, GIGAJOULES, mdqs) for mdqs in (firm, auction))
+    return list(zip(names, firm, auction, *schedules, lower))
 
 
 def some_day(chance):
@@ -57,8 +51,8 @@ class RoundLaws(Laws):
         for _ in range(400):
             rows = self.chance.randint(0, 8)
             capacity = some(self.chance, ROUND_CAPACITY)
-            weights = some_list(self.chance, GIGAJOULES, rows)
-            needs = some_list(self.chance, GIGAJOULES, rows)
+            weights = some_rows(self.chance, GIGAJOULES, rows)
+            needs = some_rows(self.chance, GIGAJOULES, rows)
             level, shares = one_round(capacity, weights, needs)
             self.assertEqual(shares_at(weights, needs, level), shares)
             self.assertLessEqual(sum(shares), capacity)
@@ -84,7 +78,7 @@ class DayLaws(Laws):
         for _ in range(200):
             rows = some_shippers(self.chance)
             lists = [[row[index] for row in rows] for index in range(1, 6)]
-            free_flow, compressor = some_list(self.chance, GIGAJOULES, 2)
+            free_flow, compressor = some_rows(self.chance, GIGAJOULES, 2)
             day = share_day(free_flow, compressor, *lists)
             self.within_schedules(day, *lists[2:])
             self.nothing_is_lost(free_flow + compressor, day)
@@ -130,8 +124,8 @@ class RatioLaws(Laws):
         for _ in range(400):
             rows = self.chance.randint(1, 8)
             capacity = some(self.chance, MEGAJOULES)
-            entitlements = some_list(self.chance, MEGAJOULES, rows)
-            mdqs = some_list(self.chance, GIGAJOULES, rows)
+            entitlements = some_rows(self.chance, MEGAJOULES, rows)
+            mdqs = some_rows(self.chance, GIGAJOULES, rows)
             try:
                 shares = hour_at_point(capacity, entitlements, mdqs)
             except Refusal as refusal:
@@ -141,7 +135,7 @@ class RatioLaws(Laws):
 
     def test_general_gas(self):
         for _ in range(400):
-            schedules = some_list(self.chance, GIGAJOULES, self.chance.randint(1, 8))
+            schedules = some_rows(self.chance, GIGAJOULES, self.chance.randint(1, 8))
             foundation = self.chance.choice((255, len(schedules) - 1))
             sug = some(self.chance, SYSTEM_USE)
             try:
@@ -167,7 +161,7 @@ class OverrunLaws(Laws):
     def test_level_flow_within_the_limits_of_both_days(self):
         """47 MJ for each GJ of the hour's own day fills every period and overruns none."""
         for _ in range(100):
-            p, m = some_list(self.chance, GIGAJOULES, 2)
+            p, m = some_rows(self.chance, GIGAJOULES, 2)
             hours = [47 * p] * 11 + [47 * m] * 24
             self.assertEqual(0, twelve_hourly_overrun(p, m, hours))
             self.assertEqual(1, twelve_hourly_overrun(p, m, [hours[0] + 1, *hours[1:]]))

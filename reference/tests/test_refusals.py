@@ -1,5 +1,6 @@
 """Each rule's refusals, in 01's order, and its bounds at their edge and one beyond."""
 
+from cases import put
 from dayshares import share_day
 from overruns import (
     BackhaulMetered,
@@ -12,7 +13,7 @@ from overruns import (
 )
 from pointshares import hour_at_point
 from rounds import one_round
-from support import RuleTest, put
+from support import RuleTest
 from tariff import escalate, overrun_charge, request_charge, variation_charge
 from usegas import general_gas, heater_gas, imbalance_fuel
 

@@ -1,3 +1,4 @@
+-- The loop counts up to yesterday's hours.
 use Prim.Native.Nat.{_-_, _≤_}
 use borrow.Author.Needs.{needs}
 use Rattle.vectors.proofs.meters.yesterday_of.Statement.{statement}

@@ -1,3 +1,4 @@
+-- The loop counts up to the rows that the list has.
 use Prim.Native.Nat.{_-_, _≤_}
 use borrow.Author.Needs.{needs}
 use Rattle.vectors.proofs.words.megajoules_of.Statement.{statement}

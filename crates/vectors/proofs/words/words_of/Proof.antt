@@ -1,3 +1,4 @@
+-- The loop counts up to the words that a case has.
 use Prim.Native.Nat.{_-_, _≤_}
 use borrow.Author.Needs.{needs}
 use Rattle.vectors.proofs.words.words_of.Statement.{statement}
