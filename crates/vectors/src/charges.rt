@@ -29,7 +29,7 @@ fn put_charge(charge: Charge) {
 }
 
 pub fn answer_overrun(case: &[u32]) {
-    let charge = tariff::overrun_charge(Rate(word(case, 0)), Megajoules(wide(past(case, 1))));
+    let charge = tariff::overrun_charge(Rate(word(case, 0)), Megajoules(wide(case, 1)));
     io::write_all(1, b"overrun_charge");
     put_charge(charge);
 }

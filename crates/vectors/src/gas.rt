@@ -29,7 +29,7 @@ pub fn answer_hour(case: &[u32]) {
     let figures = megajoules_of(pairs);
     let rows = smaller(pairs.len() / 2, MOST_ROWS);
     let hour = pointshares::share_hour(
-        Megajoules(wide(case)),
+        Megajoules(wide(case, 0)),
         &figures[0..rows],
         list(past_list(entitlements)),
         &mut shares[0..room],
@@ -48,9 +48,9 @@ pub fn answer_general(case: &[u32]) {
     let mut shares = [LENT; MOST_ROWS];
     let room = smaller(word(case, 6) as usize, MOST_ROWS);
     let gas = usegas::share_general(
-        Megajoules(wide(case)),
-        Megajoules(wide(past(case, 2))),
-        wide(past(case, 4)) as usize,
+        Megajoules(wide(case, 0)),
+        Megajoules(wide(case, 2)),
+        wide(case, 4) as usize,
         list(past(case, 7)),
         &mut shares[0..room],
     );
@@ -63,7 +63,7 @@ pub fn answer_heater(case: &[u32]) {
     let mut shares = [LENT; MOST_ROWS];
     let room = smaller(word(case, 2) as usize, MOST_ROWS);
     let gas = usegas::share_heater(
-        Megajoules(wide(case)),
+        Megajoules(wide(case, 0)),
         list(past(case, 3)),
         &mut shares[0..room],
     );
@@ -83,8 +83,8 @@ fn put_gas(gas: UseGas) {
 
 pub fn answer_fuel(case: &[u32]) {
     let fuel = usegas::imbalance_fuel(
-        Imbalance(signed(case)),
-        Imbalance(signed(past(case, 2))),
+        Imbalance(signed(case, 0)),
+        Imbalance(signed(case, 2)),
         Gigajoules(word(case, 4)),
     );
     io::write_all(1, b"imbalance_fuel");

@@ -8,6 +8,7 @@ fn put(figure: u64) {
     io::print_decimal(1, figure);
 }
 
+// Figures one after another.
 pub fn put_figures(figures: &[u64]) {
     for place in 0..figures.len() {
         put(figures[place]);
@@ -22,7 +23,7 @@ pub fn put_refusal(refusal: Refusal) {
 pub fn put_gigajoules(lent: &[u32; MOST_ROWS], room: usize) {
     io::write_all(1, b" :");
     for row in 0..smaller(room, MOST_ROWS) {
-        put(wide(lent[row]));
+        put(figure_of(lent[row]));
     }
 }
 
@@ -34,6 +35,7 @@ pub fn put_megajoules(lent: &[u64; MOST_ROWS], room: usize) {
     }
 }
 
-fn wide(figure: u32) -> u64 {
-    figure as u64
+// A cast of its own, so that the loop above asks for the index alone.
+fn figure_of(gigajoules: u32) -> u64 {
+    gigajoules as u64
 }

@@ -20,7 +20,7 @@ use units::Megajoules;
 fn hours_of(case: &[u32]) -> [Megajoules; 24] {
     let mut hours = [Megajoules(0); 24];
     for hour in 0..24usize {
-        hours[hour] = Megajoules(wide(past(case, 2 * hour)));
+        hours[hour] = Megajoules(wide(case, 2 * hour));
     }
     hours
 }
@@ -36,7 +36,7 @@ fn sides_of(case: &[u32]) -> [[Megajoules; 24]; 2] {
 fn yesterday_of(case: &[u32]) -> [Megajoules; 11] {
     let mut hours = [Megajoules(0); 11];
     for hour in 0..11usize {
-        hours[hour] = Megajoules(wide(past(case, 2 * hour)));
+        hours[hour] = Megajoules(wide(case, 2 * hour));
     }
     hours
 }
@@ -46,7 +46,7 @@ fn side_of(case: &[u32]) -> Side {
     Side {
         forward: Gigajoules(word(case, 0)),
         backhaul: Gigajoules(word(case, 1)),
-        metered: Megajoules(wide(past(case, 2))),
+        metered: Megajoules(wide(case, 2)),
     }
 }
 

@@ -56,15 +56,17 @@ pub fn past_list(case: &[u32]) -> &[u32] {
     past(case, 1 + word(case, 0) as usize)
 }
 
-// The number of 64 bits that the first two words make.
-pub fn wide(case: &[u32]) -> u64 {
-    (word(case, 0) as u64) * 4_294_967_296 + word(case, 1) as u64
+// The number of 64 bits that two words make.
+pub fn wide(case: &[u32], place: usize) -> u64 {
+    let pair = past(case, place);
+    (word(pair, 0) as u64) * 4_294_967_296 + word(pair, 1) as u64
 }
 
-// A number whose first word says whether it is below zero, and whose second how far from it.
-pub fn signed(case: &[u32]) -> i64 {
-    let size = word(case, 1) as i64;
-    if word(case, 0) == 0 {
+// The number of which a word says whether it is below zero, and the next how far from it.
+pub fn signed(case: &[u32], place: usize) -> i64 {
+    let pair = past(case, place);
+    let size = word(pair, 1) as i64;
+    if word(pair, 0) == 0 {
         return size;
     }
     -size
@@ -74,7 +76,7 @@ pub fn signed(case: &[u32]) -> i64 {
 pub fn megajoules_of(pairs: &[u32]) -> [u64; MOST_ROWS] {
     let mut figures = [0u64; MOST_ROWS];
     for row in 0..MOST_ROWS {
-        figures[row] = wide(past(pairs, 2 * row));
+        figures[row] = wide(pairs, 2 * row);
     }
     figures
 }

@@ -22,14 +22,14 @@ smaller-requires c κs = search needs
 loop-holds : tie.Need-loop-holds Inv-loop μ-loop
 loop-holds c = search needs
 
-mul-wide : tie.Need-mul-wide Inv-loop μ-loop
-mul-wide c = search needs
+mul-figure-of : tie.Need-mul-figure-of Inv-loop μ-loop
+mul-figure-of c = search needs
 
-element-copy-out-wide : tie.Need-element-copy-out-wide Inv-loop μ-loop
-element-copy-out-wide c = search needs
+element-copy-out-figure-of : tie.Need-element-copy-out-figure-of Inv-loop μ-loop
+element-copy-out-figure-of c = search needs
 
-wide-requires : tie.Need-wide-requires Inv-loop μ-loop
-wide-requires c κs = search needs
+figure-of-requires : tie.Need-figure-of-requires Inv-loop μ-loop
+figure-of-requires c κs = search needs
 
 put-requires : tie.Need-put-requires Inv-loop μ-loop
 put-requires c κs = search needs
@@ -56,9 +56,9 @@ put-gigajoules-spec =
     write-all-requires
     smaller-requires
     loop-holds
-    mul-wide
-    element-copy-out-wide
-    wide-requires
+    mul-figure-of
+    element-copy-out-figure-of
+    figure-of-requires
     put-requires
     add-row
     loop-less

@@ -13,11 +13,8 @@ abbrev μ-loop : tie.MeasureT-loop
 loop-holds : tie.Need-loop-holds Inv-loop μ-loop
 loop-holds c = search needs
 
-mul-past : tie.Need-mul-past Inv-loop μ-loop
-mul-past c = search needs
-
-past-requires : tie.Need-past-requires Inv-loop μ-loop
-past-requires c κs = search needs
+mul-wide : tie.Need-mul-wide Inv-loop μ-loop
+mul-wide c = search needs
 
 wide-requires : tie.Need-wide-requires Inv-loop μ-loop
 wide-requires c κs = search needs
@@ -47,8 +44,7 @@ megajoules-of-spec =
     Inv-loop
     μ-loop
     loop-holds
-    mul-past
-    past-requires
+    mul-wide
     wide-requires
     mul-figures
     array-write-figures

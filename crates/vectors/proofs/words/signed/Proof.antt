@@ -14,6 +14,9 @@ below-zero : (n : ℕ) → n < 4294967296 → SFits w64 (pos 0 -ℤ pos n)
 below-zero zero h = search needs
 below-zero (suc n) h = record { sfits = rw (lt-ltb 0 (suc n) (omega arith)) (omega arith) }
 
+past-requires : tie.Need-past-requires
+past-requires c κs = search needs
+
 word-requires : tie.Need-word-requires
 word-requires c κs = search needs
 
@@ -35,4 +38,4 @@ returns-2 : tie.Need-returns-2
 returns-2 c = search needs
 
 pub signed-spec : {M : Type 1} → statement M
-signed-spec = tie.close (tie.spec word-requires cast-size word-requires-2 returns sub-result returns-2)
+signed-spec = tie.close (tie.spec past-requires word-requires cast-size word-requires-2 returns sub-result returns-2)
