@@ -1,4 +1,8 @@
 pub mod ChargesAccept
+pub mod Lines
 pub mod OverrunsAccept
 pub mod ReadSound
 pub mod SharesAccept
+pub mod Sharing
+pub mod TextIs
+pub mod Listing

@@ -1,2 +1,3 @@
 pub mod DayTable
 pub mod MeterDay
+pub mod SharesText

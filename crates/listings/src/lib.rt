@@ -1,1 +1,6 @@
-// From a day file's bytes to what a day's routines are given: definitions, and theorems that what the reader accepts they accept.
+// From a day file's bytes to the text that a program prints.
+mod list;
+mod shares;
+mod sharestext;
+
+pub use list::list_shares;

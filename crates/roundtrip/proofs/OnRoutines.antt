@@ -61,14 +61,14 @@ written-accepted (Refused refusal) found size e = absurd (true≢false (ap is-wr
     is-written (Written.Bytes many) = true
 
 module _ (file lent numbers : List ℕ) (day : Day) (R : reader.Answered file lent numbers (Reading.Read day)) where
-  told : (reader.check file (length lent) ≡ Accepted) × (day ≡ day-of file)
+  pub told : (reader.check file (length lent) ≡ Accepted) × (day ≡ day-of file)
   told = read-accepted (reader.check file (length lent)) (day-of file) day (R .answers)
 
   both : (file-check (walked file) ≡ Accepted) × (keep (leb (numbers-in (walked file .counts)) (length lent)) 7 ≡ Accepted)
   unfolding reader.check
   both = both-accepted _ _ (told .0)
 
-  reads-day : Reads file day (tables file .numbers)
+  pub reads-day : Reads file day (tables file .numbers)
   reads-day =
       record {
         accepted = faultless (walked file) (both .0);
@@ -79,10 +79,10 @@ module _ (file lent numbers : List ℕ) (day : Day) (R : reader.Answered file le
   lent-numbers : numbers ≡ sets lent 0 (tables file .numbers)
   lent-numbers = R .leaves ∙ rw (told .0)
 
-  lent-room : numbers-in (day .counts) ≤ length lent
+  pub lent-room : numbers-in (day .counts) ≤ length lent
   lent-room = rw (told .1) (leb-true _ _ (kept _ _ (both .1)))
 
-  taken-numbers : AreBytes file → take (numbers-in (day .counts)) numbers ≡ tables file .numbers
+  pub taken-numbers : AreBytes file → take (numbers-in (day .counts)) numbers ≡ tables file .numbers
   taken-numbers are =
       let W = round-trips .file-again file day (tables file .numbers) are reads-day in
       rw lent-numbers

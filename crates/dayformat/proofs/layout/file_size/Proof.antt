@@ -1,3 +1,4 @@
+-- The bytes of each field, counted.
 use native.Mathlib.Omega.{arith}
 use Rattle.columns.specs.Column.{listed}
 use Rattle.bigendian.specs.Row.{size}

@@ -1,3 +1,4 @@
+-- A table begins where the rows of the tables before it end.
 use mathlib.Core.Path.{refl}
 use borrow.Author.Needs.{needs}
 use Rattle.dayformat.proofs.layout.table_start.Statement.{statement}

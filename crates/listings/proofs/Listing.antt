@@ -1,0 +1,90 @@
+-- A file that is refused is so by its own fault, since there is room for every day; one that is read is listed.
+use mathlib.Core.Path.{_≡_, refl, ap, sym, _∙_}
+use mathlib.Core.Bool.{Bool, true, false, true≢false}
+use mathlib.Core.List.{List}
+use Prim.Native.Nat.{ℕ, _≤_}
+use native.Mathlib.Omega.{arith}
+use borrow.Author.Tests.{le-leb}
+use lib.ListN.{length, take}
+use lib.Seq.{length-take-le}
+use Rattle.columns.specs.Column.{col}
+use Rattle.bigendian.specs.Number.{AreBytes}
+use Rattle.units.specs.declared.refusal.Refusal.{Refusal}
+use Rattle.units.specs.declared.refusal.Check.{Check}
+use Rattle.units.specs.declared.refusal.Check.the-variants.{Accepted, Refused}
+use Rattle.units.specs.Refusals.{_then_}
+use Rattle.units.proofs.Checks.{accepts-both, accepts-kept, both-accepted}
+use Rattle.lines.specs.declared.Listing.{Listing}
+use Rattle.lines.specs.declared.Listing.the-variants as Listing
+use Rattle.lines.specs.Answer.{Listed}
+use Rattle.lines.specs.Answer as lines
+use Rattle.dayformat.specs.declared.day.Day.{Day}
+use Rattle.dayformat.specs.declared.form.Tag.the-variants.{Shipper, Point, Entry, Meter}
+use Rattle.dayformat.specs.Layout.{numbers-in}
+use Rattle.dayruns.specs.Walk.{file-check}
+use Rattle.dayruns.proofs.Ending.{faultless}
+use Rattle.dayfile.specs.declared.reader.Reading.{Reading}
+use Rattle.dayfile.specs.declared.reader.Reading.the-variants as Reading
+use Rattle.dayfile.specs.File.{tables, walked}
+use Rattle.dayfile.specs.Answer.{day-of}
+use Rattle.dayfile.specs.Answer as reader
+use Rattle.daywriter.specs.Acceptance.{sound}
+use Rattle.roundtrip.proofs.FileAgain.{day-accepted}
+use Rattle.roundtrip.proofs.OnRoutines.{told, reads-day, lent-room, taken-numbers}
+use Rattle.listings.specs.SharesText.{shares-text, file-text}
+use Rattle.listings.proofs.ReadSound.{read-sound}
+
+-- every day that is read has room among so many numbers
+room-for : (file : List ℕ) → AreBytes file → walked file .fault ≡ 0 → numbers-in (walked file .counts) ≤ 6_880
+room-for file are none =
+    let S = read-sound file are none in
+    omega (arith, S .few Shipper, S .few Point, S .few Entry, S .few Meter)
+
+-- ---- a refusal
+module _ (file lent after : List ℕ) (are : AreBytes file) (room : length lent ≡ 6_880) (x : Refusal)
+    (R : reader.Answered file lent after (Reading.Refused x)) where
+  abbrev is-refused : Reading → Bool
+  is-refused (Reading.Refused refusal) = true
+  is-refused (Reading.Read day) = false
+
+  abbrev refusal-or : Refusal → Reading → Refusal
+  refusal-or y (Reading.Refused refusal) = refusal
+  refusal-or y (Reading.Read day) = y
+
+  pub file-refused : file-check (walked file) ≡ Refused x
+  unfolding reader.check _then_
+  file-refused = by (file-check (walked file)) refl
+    where
+      by : (found : Check) → file-check (walked file) ≡ found → found ≡ Refused x
+      by Accepted e =
+          let accepted : reader.check file (length lent) ≡ Accepted =
+          accepts-both e (accepts-kept 7 (le-leb (numbers-in (walked file .counts)) (length lent) (omega (arith, room, room-for file are (faultless (walked file) e)))))
+          in let same : Reading.Refused x ≡ Reading.Read (day-of file) = R .answers ∙ rw accepted in absurd (true≢false (ap is-refused same))
+      by (Refused y) e =
+          let same : Reading.Refused x ≡ Reading.Refused y = R .answers ∙ rw e in ap (λ refusal. Refused refusal) (sym (ap (refusal-or x) same))
+
+  pub lists-refusal : (text block : List ℕ) → Listed (file-check (walked file)) text block block (Listing.Refused x)
+  unfolding lines.check _then_
+  lists-refusal text block = record { answers = rw file-refused; leaves = rw file-refused }
+
+-- ---- a day
+module _ (file lent numbers : List ℕ) (day : Day) (are : AreBytes file) (R : reader.Answered file lent numbers (Reading.Read day)) where
+  part-is : take (numbers-in (day .counts)) numbers ≡ tables file .numbers
+  part-is = taken-numbers file lent numbers day R are
+
+  pub part-sound : sound day (take (numbers-in (day .counts)) numbers) ≡ Accepted
+  part-sound = rw (part-is, told file lent numbers day R .1) (day-accepted file are (reads-day file lent numbers day R .accepted))
+
+  pub lists-day : {block after : List ℕ} {listing : Listing}
+      → Listed Accepted (shares-text day (col (take (numbers-in (day .counts)) numbers))) block after listing
+      → Listed (file-check (walked file)) (file-text file) block after listing
+  unfolding reader.check
+  lists-day L =
+      let accepted = both-accepted (file-check (walked file)) _ (told file lent numbers day R .0) .0 in
+      rw accepted (rw (part-is, told file lent numbers day R .1) at L)
+
+  pub part-inside : length numbers ≡ length lent → numbers-in (day .counts) ≤ length numbers
+  part-inside e = omega (arith, e, lent-room file lent numbers day R)
+
+  pub part-long : length numbers ≡ length lent → numbers-in (day .counts) ≡ length (take (numbers-in (day .counts)) numbers)
+  part-long e = sym (length-take-le (numbers-in (day .counts)) numbers (part-inside e))
