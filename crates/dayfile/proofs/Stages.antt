@@ -29,11 +29,15 @@ unfolding headed
 stage-first file e zeros =
     record {
       is = e;
-      ready = λ none. (record { few = few-none; front = ap col zeros ∙ front-none most-numbers; long = omega arith }, (refl, refl, refl, refl));
+      ready = λ none. (
+        record { few = few-none; front = ap col zeros ∙ front-none most-numbers; long = omega arith },
+        (refl, refl, refl, refl),
+      );
       room = ap length zeros ∙ length-replicate {A = ℕ} most-numbers 0;
     }
 
-pub stage-next : (file : List ℕ) (tag : Tag) (T : Tables) {walk next : Walk} {list after : List ℕ} → Table tag → Stage (before tag) T walk list
+pub stage-next : (file : List ℕ) (tag : Tag) (T : Tables) {walk next : Walk} {list after : List ℕ} → Table tag
+    → Stage (before tag) T walk list
     → Tabled walk file tag list after next → length after ≡ length list → Stage tag (tabled file tag T) next after
 stage-next file tag T {list = list} t S B long =
     let step = rw (S .is) at B in

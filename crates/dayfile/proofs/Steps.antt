@@ -55,5 +55,6 @@ pub tabled-on : (walk : Walk) (file : List ℕ) (tag : Tag) (lent : List ℕ) {a
 tabled-on walk file tag lent none R w =
     record {
       answers = rw (eq-eqb (walk .fault) 0 none, w) (ap (walk-after walk tag) (R .answers));
-      lays = λ on sound. ran-sound (fields-from file walk tag) lent R sound ∙ ap (λ run. laid (fields-from file walk tag) lent (run .rows)) (R .answers);
+      lays = λ on sound. ran-sound (fields-from file walk tag) lent R sound
+          ∙ ap (λ run. laid (fields-from file walk tag) lent (run .rows)) (R .answers);
     }

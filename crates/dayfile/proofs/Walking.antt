@@ -60,7 +60,8 @@ module _ (file : List ℕ) (tag : Tag) (T : Tables) (lent : List ℕ) (room : le
     few-rows : table-run file tag T .rows ≤ form tag .most
     few-rows = first-le (stops F (λ many. col (T .numbers ++ rows-of F many))) (form tag .most)
 
-    held-next : {after : List ℕ} → after ≡ laid F lent (lent-run .rows) → Held (tabled file tag T) after × None-after tag (tabled file tag T .walk .counts)
+    held-next : {after : List ℕ} → after ≡ laid F lent (lent-run .rows) → Held (tabled file tag T) after
+        × None-after tag (tabled file tag T .walk .counts)
     unfolding tabled
     held-next lays =
         let on = eq-eqb (T .walk .fault) 0 none in

@@ -82,7 +82,8 @@ pub record Tabled (walk : Walk) (file : List ℕ) (tag : Tag) (lent after : List
   pub lays :
       walk .fault ≡ 0
       → next .fault ≡ 0
-      → after ≡ laid (fields-from file walk tag) lent (run-of (fields-from file walk tag) (λ many. col (laid (fields-from file walk tag) lent many)) .rows)
+      → after ≡ laid (fields-from file walk tag) lent
+      (run-of (fields-from file walk tag) (λ many. col (laid (fields-from file walk tag) lent many)) .rows)
 
 -- how many numbers a day has at most
 abbrev pub most-numbers : ℕ

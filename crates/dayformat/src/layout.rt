@@ -1,4 +1,4 @@
-// How many fields of each tag a day has, and what follows from it: where a row stands among the day's numbers, how many numbers and bytes there are.
+// How many fields of each tag a day has; so where a row stands among its numbers, and how many numbers and bytes there are.
 use crate::form::Tag;
 use crate::form::form_of;
 ghost use mathlib.Core.Path.{_≡_};

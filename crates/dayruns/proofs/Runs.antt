@@ -24,7 +24,8 @@ use Rattle.dayruns.proofs.Fronts.{front-more}
 use Rattle.dayruns.proofs.Running.{length-rows}
 
 -- a row too many is refused whatever the numbers are
-fault-beyond : (source : Source) (counts : Counts) (f : ℕ → ℕ) (tag : Tag) (row : ℕ) → form tag .most ≤ row → fault source counts f tag row ≡ 3
+fault-beyond : (source : Source) (counts : Counts) (f : ℕ → ℕ) (tag : Tag) (row : ℕ) → form tag .most ≤ row
+    → fault source counts f tag row ≡ 3
 unfolding fault passes
 fault-beyond source counts f tag row h = rw (le-ltb row (form tag .most) h)
 

@@ -142,7 +142,8 @@ module _ (day : Day) (numbers : List ℕ) where
   unfolding sound rows-check
   accepts S =
       accepts-both
-      (accepts-both (accepts-both refl (accepts-kept 9 (eq-eqb _ _ (S .long)))) (singles-accept day (S .free-flow) (S .compressor) (S .few)))
+      (accepts-both (accepts-both refl (accepts-kept 9 (eq-eqb _ _ (S .long))))
+      (singles-accept day (S .free-flow) (S .compressor) (S .few)))
       (accepts-both (accepts-both (accepts-both refl (clear-by Bounds 3)) (clear-by Key 5)) (clear-by Mdq 4))
     where
       clear-by : (test : Test) (number : ℕ) → tables test number (day .counts) (col numbers) ≡ Check.Accepted

@@ -25,8 +25,10 @@ module _ (day : Day) (numbers : List ℕ) {first : Check}
     (is : first ≡ (Check.Accepted then keep (eqb (length numbers) (numbers-in (day .counts))) 9 then singles day)) where
   pub singles-refuse : {x : Refusal} → first ≡ Refused x → Refused x ≡ sound day numbers
   unfolding sound
-  singles-refuse {x} e = refused-then x (rows-check (day .counts) (col numbers)) ∙ ap (λ check. check then rows-check (day .counts) (col numbers)) (sym e ∙ is)
+  singles-refuse {x} e = refused-then x (rows-check (day .counts) (col numbers))
+      ∙ ap (λ check. check then rows-check (day .counts) (col numbers)) (sym e ∙ is)
 
   pub rows-decide : {rows : Check} → first ≡ Accepted → rows ≡ rows-check (day .counts) (col numbers) → rows ≡ sound day numbers
   unfolding sound
-  rows-decide e r = r ∙ accepted-then (rows-check (day .counts) (col numbers)) ∙ ap (λ check. check then rows-check (day .counts) (col numbers)) (sym e ∙ is)
+  rows-decide e r = r ∙ accepted-then (rows-check (day .counts) (col numbers))
+      ∙ ap (λ check. check then rows-check (day .counts) (col numbers)) (sym e ∙ is)

@@ -58,10 +58,13 @@ module _ (file lent after : List ℕ) (are : AreBytes file) (room : length lent 
       by : (found : Check) → file-check (walked file) ≡ found → found ≡ Refused x
       by Accepted e =
           let accepted : reader.check file (length lent) ≡ Accepted =
-          accepts-both e (accepts-kept 7 (le-leb (numbers-in (walked file .counts)) (length lent) (omega (arith, room, room-for file are (faultless (walked file) e)))))
-          in let same : Reading.Refused x ≡ Reading.Read (day-of file) = R .answers ∙ rw accepted in absurd (true≢false (ap is-refused same))
+          accepts-both e (accepts-kept 7 (le-leb (numbers-in (walked file .counts)) (length lent)
+          (omega (arith, room, room-for file are (faultless (walked file) e)))))
+          in let same : Reading.Refused x ≡ Reading.Read (day-of file) = R .answers
+          ∙ rw accepted in absurd (true≢false (ap is-refused same))
       by (Refused y) e =
-          let same : Reading.Refused x ≡ Reading.Refused y = R .answers ∙ rw e in ap (λ refusal. Refused refusal) (sym (ap (refusal-or x) same))
+          let same : Reading.Refused x ≡ Reading.Refused y = R .answers
+          ∙ rw e in ap (λ refusal. Refused refusal) (sym (ap (refusal-or x) same))
 
   pub lists-refusal : (text block : List ℕ) → Listed (file-check (walked file)) text block block (Listing.Refused x)
   unfolding lines.check _then_

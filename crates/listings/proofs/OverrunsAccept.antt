@@ -46,7 +46,8 @@ module _ (day : Day) (numbers : List ℕ) (S : Sound day numbers) (row : ℕ) (l
   unfolding passes
   row-bounded =
       let at = row-start (day .counts) Meter row in
-      let kept = both (ltb row (form Meter .most)) (cond (bounded (col numbers) Meter at) true false) (S .passes Meter tt Test.Bounds row l) in
+      let kept = both (ltb row (form Meter .most)) (cond (bounded (col numbers) Meter at) true false)
+      (S .passes Meter tt Test.Bounds row l) in
       both (bounded (col numbers) Meter at) true (kept .1) .0
 
   pub meter-accepts : meter-check (day .counts) numbers row ≡ Check.Accepted
@@ -88,7 +89,8 @@ module _ (day : Day) (numbers : List ℕ) (S : Sound day numbers) (row : ℕ) (l
       (accepts-within most-hour (listed many (λ hour. figure (at + hour)))
       (λ place k.
       let inside : place < many = rw length-listed at k in
-      rw (col-listed many (λ hour. figure (at + hour)) place inside) (of-hours (at + place) (omega (arith, some)) (omega (arith, few, inside)))))
+      rw (col-listed many (λ hour. figure (at + hour)) place inside)
+      (of-hours (at + place) (omega (arith, some)) (omega (arith, few, inside)))))
 
   -- ---- the day's overruns
   pub overruns-accept : day-check (shipper-day (day .counts) numbers row) ≡ Check.Accepted
@@ -98,13 +100,16 @@ module _ (day : Day) (numbers : List ℕ) (S : Sound day numbers) (row : ℕ) (l
       (accepts-both
       (accepts-both
       (accepts-both
-      (accepts-both (accepts-both refl (gigajoules-kept (of-mdqs 1 (omega arith) (omega arith)))) (gigajoules-kept (of-mdqs 2 (omega arith) (omega arith))))
+      (accepts-both (accepts-both refl (gigajoules-kept (of-mdqs 1 (omega arith) (omega arith))))
+      (gigajoules-kept (of-mdqs 2 (omega arith) (omega arith))))
       (accepts-both
       (accepts-both
-      (accepts-both (accepts-both refl (gigajoules-kept (of-schedules 62 (omega arith) (omega arith)))) (gigajoules-kept (of-schedules 64 (omega arith) (omega arith))))
+      (accepts-both (accepts-both refl (gigajoules-kept (of-schedules 62 (omega arith) (omega arith))))
+      (gigajoules-kept (of-schedules 64 (omega arith) (omega arith))))
       (accepts-kept 3 (le-leb _ _ (of-backhaul 66 (omega arith) (omega arith)))))
       (accepts-both
-      (accepts-both (accepts-both refl (gigajoules-kept (of-schedules 63 (omega arith) (omega arith)))) (gigajoules-kept (of-schedules 65 (omega arith) (omega arith))))
+      (accepts-both (accepts-both refl (gigajoules-kept (of-schedules 63 (omega arith) (omega arith))))
+      (gigajoules-kept (of-schedules 65 (omega arith) (omega arith))))
       (accepts-kept 3 (le-leb _ _ (of-backhaul 67 (omega arith) (omega arith)))))))
       (hours-within 3 11 (omega arith) (omega arith)))
       (accepts-both (accepts-both refl (hours-within 14 24 (omega arith) (omega arith))) (hours-within 38 24 (omega arith) (omega arith))))

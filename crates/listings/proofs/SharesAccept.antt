@@ -78,7 +78,8 @@ module _ (day : Day) (numbers : List ℕ) (S : Sound day numbers) where
       ∙ sym
       (length-listed _ _)
       ∙ sym
-      (first-none (λ row. idle (col (listed many (figure mdq)) row) (col (listed many (figure schedule)) row)) (length (listed many (figure mdq)))
+      (first-none (λ row. idle (col (listed many (figure mdq)) row) (col (listed many (figure schedule)) row))
+      (length (listed many (figure mdq)))
       (λ row l.
       let inside : row < many = rw length-listed at l in
       rw (col-listed many (figure mdq) row inside, col-listed many (figure schedule) row inside) (fed row inside)))))
@@ -92,7 +93,8 @@ module _ (day : Day) (numbers : List ℕ) (S : Sound day numbers) where
   long =
       accepts-both
       (accepts-both
-      (accepts-both (accepts-both refl (accepts-kept 9 (eq-eqb _ _ (as-long (figure 1) (figure 2))))) (accepts-kept 9 (eq-eqb _ _ (as-long (figure 1) (figure 3)))))
+      (accepts-both (accepts-both refl (accepts-kept 9 (eq-eqb _ _ (as-long (figure 1) (figure 2)))))
+      (accepts-kept 9 (eq-eqb _ _ (as-long (figure 1) (figure 3)))))
       (accepts-kept 9 (eq-eqb _ _ (as-long (figure 1) (figure 4)))))
       (accepts-kept 9 (eq-eqb _ _ (as-long (figure 1) (figure 5))))
 
@@ -117,13 +119,15 @@ module _ (day : Day) (numbers : List ℕ) (S : Sound day numbers) where
       (column-within 5 (omega arith) (omega arith))
 
   -- with room for every table's rows
-  pub shares-accept : (firm auction lower-tier : ℕ) → 64 ≤ firm → 64 ≤ auction → 64 ≤ lower-tier → check T firm auction lower-tier ≡ Check.Accepted
+  pub shares-accept : (firm auction lower-tier : ℕ) → 64 ≤ firm → 64 ≤ auction → 64 ≤ lower-tier
+      → check T firm auction lower-tier ≡ Check.Accepted
   unfolding check
   shares-accept firm auction lower-tier f a l =
       accepts-both
       (accepts-both
       (accepts-both
-      (accepts-both (accepts-both (accepts-both long within-bound) (none-idle 1 3 (λ row l. fed row l .0))) (none-idle 2 4 (λ row l. fed row l .1)))
+      (accepts-both (accepts-both (accepts-both long within-bound) (none-idle 1 3 (λ row l. fed row l .0)))
+      (none-idle 2 4 (λ row l. fed row l .1)))
       (accepts-kept 7 (le-leb (rows T) firm (omega (arith, few-rows, f)))))
       (accepts-kept 7 (le-leb (rows T) auction (omega (arith, few-rows, a)))))
       (accepts-kept 7 (le-leb (rows T) lower-tier (omega (arith, few-rows, l))))

@@ -24,7 +24,8 @@ use Rattle.listings.specs.DayTable.{table-of, Shared}
 use Rattle.listings.specs.SharesText.{head-line, shipper-lines, shares-text}
 
 module _ (day : Day) (numbers : List ℕ) (S : Sound day numbers) {firm auction lower-tier : List ℕ} {answer : DayShares} {v : Shares}
-    (H : Shared (table-of day (col numbers)) (replicate most-rows 0) (replicate most-rows 0) (replicate most-rows 0) answer firm auction lower-tier)
+    (H : Shared (table-of day (col numbers)) (replicate most-rows 0) (replicate most-rows 0)
+    (replicate most-rows 0) answer firm auction lower-tier)
     (e : answer ≡ DayShares.Shared v) where
   abbrev T : Table
   T = table-of day (col numbers)
@@ -36,7 +37,8 @@ module _ (day : Day) (numbers : List ℕ) (S : Sound day numbers) {firm auction 
   many = length-listed _ _
 
   -- a class's list has its shares
-  has : (list : List ℕ) (given : ℕ → ℕ) → list ≡ sets (replicate most-rows 0) 0 (listed (rows T) given) → (row : ℕ) → row < count (day .counts) Shipper
+  has : (list : List ℕ) (given : ℕ → ℕ) → list ≡ sets (replicate most-rows 0) 0 (listed (rows T) given) → (row : ℕ)
+      → row < count (day .counts) Shipper
       → col list row ≡ given row
   has list given is row l =
       ap (λ list. col list row) is

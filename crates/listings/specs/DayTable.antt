@@ -39,7 +39,8 @@ pub record Shareable (day : Day) (numbers firm auction lower-tier : List ℕ) : 
   pub lower-tier-room : length lower-tier ≡ most-rows
 
 -- its statement: the answer, and the three lent lists before and after
-pub record Shared (T : Table) (firm auction lower-tier : List ℕ) (answer : DayShares) (firm-after auction-after lower-tier-after : List ℕ) : Type 0
+pub record Shared (T : Table) (firm auction lower-tier : List ℕ) (answer : DayShares)
+    (firm-after auction-after lower-tier-after : List ℕ) : Type 0
   where
     pub answers : answer ≡ DayShares.Shared (shares T)
     pub leaves-firm : firm-after ≡ sets firm 0 (listed (rows T) (firm-given T))

@@ -28,7 +28,8 @@ const MOST_NUMBERS: usize = 6_880;
 
 // Lists a day file's shares: the text goes to the front of a lent block.
 pub fn list_shares(file: &[u8], lent: &mut [u8]) -> Listing
-    ensures { λ r. ⌜ Listed (file-check (walked (now (file .entry)))) (file-text (now (file .entry))) (now (lent .entry)) (now (lent .exit)) r ⌝ }
+    ensures { λ r. ⌜ Listed (file-check (walked (now (file .entry)))) (file-text (now (file .entry)))
+        (now (lent .entry)) (now (lent .exit)) r ⌝ }
 {
     let mut numbers = [0usize; MOST_NUMBERS];
     let reading = read_day(file, &mut numbers);
@@ -65,7 +66,7 @@ fn put_shares(
     size + put_shippers(counts, numbers, firm, auction, lower_tier, text, at + size)
 }
 
-// A sound day's listing; 7 exactly when its text is longer than the block. It is counted before: laid from the block's end on, it changes nothing.
+// A sound day's listing; 7 exactly when its text is longer than the block. Laid from the block's end on, it is only counted.
 fn list_day(day: Day, numbers: &[usize], lent: &mut [u8]) -> Listing
     requires { ⌜ sound day (now numbers) ≡ Accepted ⌝ }
     ensures { λ r. ⌜ Listed Accepted (shares-text day (col (now (numbers .entry)))) (now (lent .entry)) (now (lent .exit)) r ⌝ }

@@ -146,7 +146,13 @@ module _ (day : Day) (numbers : List ℕ) (S : Sound day numbers) where
           rw tabled-is
           (record {
             sound = refl;
-            here = omega (arith, B .here, length-append ahead (fields (day .counts) (col numbers) tag), length-fields (col numbers) tag (day .counts));
+            here = omega (
+              arith,
+              B .here,
+              length-append ahead (fields (day .counts) (col numbers) tag),
+              length-fields
+                  (col numbers) tag (day .counts),
+            );
             agree = agree-with tag t (T .walk .counts) (day .counts) (B .agree);
             none = none-with tag t (T .walk .counts) many (B .none);
             long =

@@ -80,7 +80,11 @@ file-are day numbers =
 
 pub exactly : Exactly
 exactly day numbers u32 = (
-  λ accepted.
-      (file-of day (col numbers), file-are day (col numbers), round-trips .day-again day numbers (file-of day (col numbers)) u32 (record { accepted = accepted; file-is = refl })),
+  λ accepted. (
+    file-of day (col numbers),
+    file-are day (col numbers),
+    round-trips .day-again day numbers (file-of day (col numbers)) u32
+        (record { accepted = accepted; file-is = refl }),
+  ),
   λ file are R. round-trips .file-again file day numbers are R .accepted,
 )

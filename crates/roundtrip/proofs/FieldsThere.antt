@@ -37,7 +37,8 @@ module _ (file : List ℕ) (are : AreBytes file) (tag : Tag) (at : ℕ) (W : Who
 
   body-there : take (form tag .size) (drop (at + 3) file) ≡ encode (widths tag) (decode (widths tag) (drop (at + 3) file))
   body-there =
-      sym (encode-decode (widths tag) (drop (at + 3) file) (drop-bytes (at + 3) file are) (there (at + 3) (form tag .size) (omega (arith, W .there))))
+      sym (encode-decode (widths tag) (drop (at + 3) file) (drop-bytes (at + 3) file are)
+      (there (at + 3) (form tag .size) (omega (arith, W .there))))
 
   pub field-there : take (field-size tag) (drop at file) ≡ field tag (decode (widths tag) (drop (at + 3) file))
   field-there =
@@ -79,7 +80,13 @@ module _ (tag : Tag) (row : List ℕ) (F : Fit (widths tag) row) where
     pub whole-there : Whole file tag at
     whole-there =
         record {
-          there = omega (arith, length-append ahead (field tag row ++ rest), length-append (field tag row) rest, length-field tag row (F .as-many ∙ length-listed _ _));
+          there = omega (
+            arith,
+            length-append ahead (field tag row ++ rest),
+            length-append
+                (field tag row) rest,
+            length-field tag row (F .as-many ∙ length-listed _ _),
+          );
           tagged = ap (col file) (omega arith) ∙ sym (getD-drop at file 0 0) ∙ ap (λ list. col list 0) from-tag;
           sized =
               ap (λ list. value (take 2 list)) from-length

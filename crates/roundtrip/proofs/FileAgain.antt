@@ -57,7 +57,8 @@ module _ (file : List ℕ) (are : AreBytes file) (none : head-fault file ≡ 0) 
   unfolding headed
   head-place = rw (eq-eqb (head-fault file) 0 none)
 
-  reread-head : Reread file Head (record { walk = headed file; numbers = [] }) (λ counts f. field Head (head-row (head-of file))) (λ counts f. Unit {0})
+  reread-head : Reread file Head (record { walk = headed file; numbers = [] }) (λ counts f. field Head (head-row (head-of file)))
+      (λ counts f. Unit {0})
   unfolding headed
   reread-head =
       record {
@@ -111,7 +112,8 @@ module _ (file : List ℕ) (are : AreBytes file) (none : walked file .fault ≡ 
 
   reread : Reread file Meter (tables file)
       (λ counts f.
-      field Head (head-row (head-of file)) ++ fields counts f Shipper ++ fields counts f Point ++ fields counts f Entry ++ fields counts f Meter)
+      field Head (head-row (head-of file)) ++ fields counts f Shipper ++ fields counts f Point ++ fields counts f Entry
+      ++ fields counts f Meter)
       (λ counts f. (((Unit {0} × All-pass counts f Shipper) × All-pass counts f Point) × All-pass counts f Entry) × All-pass counts f Meter)
   reread =
       reread-more file are Meter tt T₃

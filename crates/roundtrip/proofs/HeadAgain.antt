@@ -51,8 +51,16 @@ module _ (head : Head) (B : Bounded head) where
   head-within : (place : ℕ) → place < 3 → within (column-in (body Tag.Head) place) (col (head-row head) place) ≡ true
   unfolding column-in
   head-within zero l = rw (le-leb 0 (head .day) (omega arith), le-leb (head .day) 4_294_967_295 (omega (arith, B .day)))
-  head-within (suc zero) l = rw (le-leb 0 (head .«free_flow» .0) (omega arith), le-leb (head .«free_flow» .0) most-gigajoules (B .free-flow))
-  head-within (suc (suc zero)) l = rw (le-leb 0 (head .compressor .0) (omega arith), le-leb (head .compressor .0) most-gigajoules (B .compressor))
+  head-within (suc zero) l = rw (
+    le-leb 0 (head .«free_flow» .0) (omega arith),
+    le-leb (head .«free_flow» .0) most-gigajoules
+        (B .free-flow),
+  )
+  head-within (suc (suc zero)) l = rw (
+    le-leb 0 (head .compressor .0) (omega arith),
+    le-leb (head .compressor .0) most-gigajoules
+        (B .compressor),
+  )
   head-within (suc (suc (suc place))) l = absurd (omega (arith, l))
 
   module _ (rest : List ℕ) where

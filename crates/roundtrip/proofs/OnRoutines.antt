@@ -52,7 +52,8 @@ read-accepted (Refused refusal) found day e = absurd (true≢false (ap is-read e
     is-read (Reading.Refused refusal) = false
     is-read (Reading.Read read) = true
 
-written-accepted : (check : Check) (found size : ℕ) → Written.Bytes size ≡ writer-answer.answer check found → (check ≡ Accepted) × (size ≡ found)
+written-accepted : (check : Check) (found size : ℕ) → Written.Bytes size ≡ writer-answer.answer check found → (check ≡ Accepted)
+    × (size ≡ found)
 written-accepted Accepted found size e = (refl, ap writer-answer.size e)
 written-accepted (Refused refusal) found size e = absurd (true≢false (ap is-written e))
   where
@@ -86,7 +87,8 @@ module _ (file lent numbers : List ℕ) (day : Day) (R : reader.Answered file le
   taken-numbers are =
       let W = round-trips .file-again file day (tables file .numbers) are reads-day in
       rw lent-numbers
-      (take-front (tables file .numbers) lent (numbers-in (day .counts)) (accepting day (tables file .numbers) (W .accepted) .long) lent-room)
+      (take-front (tables file .numbers) lent (numbers-in (day .counts))
+      (accepting day (tables file .numbers) (W .accepted) .long) lent-room)
 
 pub file-again : File-again
 unfolding writer.check

@@ -99,14 +99,16 @@ module _ (file : List ℕ) (are : AreBytes file) (tag : Tag) (t : Table tag) (T 
         let from : row-start counts tag row ≡ length (T .numbers) + row * form tag .columns =
         omega (arith, start, start-same tag (T .walk .counts) counts earlier)
         in ap (field tag)
-        (sym (row-stands (T .numbers) (row-of F) (form tag .columns) (length-row F) rows numbers leads row (row-start counts tag row) l from))
+        (sym (row-stands (T .numbers) (row-of F) (form tag .columns) (length-row F) rows numbers leads row
+        (row-start counts tag row) l from))
 
     bytes-more : take (more .walk .place) file ≡ written counts (col numbers) ++ fields counts (col numbers) tag
     bytes-more =
         take-add (T .walk .place) (rows * field-size tag) file
         ∙ ap₂ (λ x y. x ++ y) (R .bytes counts numbers (agree-before (T .walk .counts) counts rows tag t a) front)
         (run-bytes F _ are
-        ∙ joined-same rows (λ row. field tag (row-of F row)) (λ row. field tag (row-from (col numbers) tag (row-start counts tag row))) row-same
+        ∙ joined-same rows (λ row. field tag (row-of F row))
+        (λ row. field tag (row-from (col numbers) tag (row-start counts tag row))) row-same
         ∙ ap (λ n. joined n (λ row. field tag (row-from (col numbers) tag (row-start counts tag row)))) counted)
 
     pass-more : Pass counts (col numbers) × All-pass counts (col numbers) tag
@@ -116,12 +118,21 @@ module _ (file : List ℕ) (are : AreBytes file) (tag : Tag) (t : Table tag) (T 
     )
 
   pub reread-more : tabled file tag T .walk .fault ≡ 0
-      → Reread file tag (tabled file tag T) (λ counts f. written counts f ++ fields counts f tag) (λ counts f. Pass counts f × All-pass counts f tag)
+      → Reread file tag (tabled file tag T) (λ counts f. written counts f ++ fields counts f tag)
+      (λ counts f. Pass counts f × All-pass counts f tag)
   reread-more sound =
       rw (tabled-none file tag T sound .1)
       (record {
-        few = few-with tag (T .walk .counts) rows (R .few) (first-le (stops F (λ many. col (T .numbers ++ rows-of F many))) (form tag .most));
-        long = omega (arith, length-append (T .numbers) (rows-of F rows), length-rows F rows, R .long, grown (T .walk .counts) tag t rows (R .none));
+        few = few-with tag (T .walk .counts) rows (R .few)
+            (first-le (stops F (λ many. col (T .numbers ++ rows-of F many))) (form tag .most));
+        long = omega (
+          arith,
+          length-append (T .numbers) (rows-of F rows),
+          length-rows F rows,
+          R .long,
+          grown
+              (T .walk .counts) tag t rows (R .none),
+        );
         none = none-with tag t (T .walk .counts) rows (R .none);
         bytes = bytes-more;
         pass = pass-more;

@@ -34,7 +34,8 @@ module _ (F : Fields) (read : ℕ → ℕ → ℕ) where
 
   -- ---- the bytes of the run
   pub run-bytes : AreBytes (F .file)
-      → take (run-rows F read * field-size (F .tag)) (drop (F .at) (F .file)) ≡ joined (run-rows F read) (λ row. field (F .tag) (row-of F row))
+      → take (run-rows F read * field-size (F .tag)) (drop (F .at) (F .file)) ≡ joined (run-rows F read)
+      (λ row. field (F .tag) (row-of F row))
   run-bytes are =
       sym (joined-parts (run-rows F read) (field-size (F .tag)) (drop (F .at) (F .file)))
       ∙ joined-same (run-rows F read) (λ row. take (field-size (F .tag)) (drop (row * field-size (F .tag)) (drop (F .at) (F .file))))
@@ -52,12 +53,21 @@ module _ (F : Fields) (known : List ℕ) (start : length known ≡ table-start (
   module _ (n : ℕ) (leads : Leads (known ++ rows-of F n) numbers) (row : ℕ) (l : row < n) where
     alike : (place : ℕ) → place < row-start (F .counts) (F .tag) (suc row) → read (suc row) place ≡ col numbers place
     alike place k =
-        let front = leads-trans (known ++ rows-of F (suc row)) (known ++ rows-of F n) numbers (leads-rows known (row-of F) (suc row) n l) leads in
+        let front = leads-trans (known ++ rows-of F (suc row)) (known ++ rows-of F n) numbers
+        (leads-rows known (row-of F) (suc row) n l) leads in
         sym
         (front .1 place
-        (omega (arith, k, start, length-append known (rows-of F (suc row)), length-joined (row-of F) (form (F .tag) .columns) (length-row F) (suc row))))
+        (omega (
+          arith,
+          k,
+          start,
+          length-append known (rows-of F (suc row)),
+          length-joined (row-of F) (form (F .tag) .columns)
+              (length-row F) (suc row),
+        )))
 
-    pub passes-all : (test : Test) → passes test (F .source) (F .counts) (read (suc row)) (F .tag) row ≡ passes test (F .source) counts (col numbers) (F .tag) row
+    pub passes-all : (test : Test) → passes test (F .source) (F .counts) (read (suc row)) (F .tag) row ≡ passes test
+        (F .source) counts (col numbers) (F .tag) row
     passes-all test = passes-same test (F .source) (F .tag) (F .counts) counts (read (suc row)) (col numbers) row earlier alike
 
 pub run-passes : (F : Fields) (known : List ℕ) → length known ≡ table-start (F .counts) (F .tag) → (numbers : List ℕ) (counts : Counts)

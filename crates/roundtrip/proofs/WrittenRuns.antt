@@ -60,8 +60,10 @@ module _ (F : Fields) (W : Written F) where
         W .is
         ∙ ap (λ n. W .ahead ++ (joined n fields-of ++ W .rest)) (sym all)
         ∙ ap (λ middle. W .ahead ++ (middle ++ W .rest)) (joined-split fields-of i (W .many - suc i))
-        ∙ ap (λ list. W .ahead ++ list) (append-assoc (joined i fields-of) (fields-of i ++ joined (W .many - suc i) (λ k. fields-of (i + suc k))) (W .rest))
-        ∙ sym (append-assoc (W .ahead) (joined i fields-of) (fields-of i ++ joined (W .many - suc i) (λ k. fields-of (i + suc k)) ++ W .rest))
+        ∙ ap (λ list. W .ahead ++ list) (append-assoc (joined i fields-of)
+        (fields-of i ++ joined (W .many - suc i) (λ k. fields-of (i + suc k))) (W .rest))
+        ∙ sym (append-assoc (W .ahead) (joined i fields-of)
+        (fields-of i ++ joined (W .many - suc i) (λ k. fields-of (i + suc k)) ++ W .rest))
         ∙ ap (λ list. ahead-of ++ list) (append-assoc (fields-of i) (joined (W .many - suc i) (λ k. fields-of (i + suc k))) (W .rest))
 
     whole-at : Whole (F .file) (F .tag) (place-of F i)
@@ -98,7 +100,8 @@ module _ (F : Fields) (W : Written F) where
 
     rows-all : run-rows F read ≡ W .many
     rows-all =
-        ⊎-elim (λ e. ap (λ n. run-rows F read) e ∙ first-none (stops F read) (form (F .tag) .most) (λ i l. goes-on i (omega (arith, l, e))) ∙ sym e)
+        ⊎-elim (λ e. ap (λ n. run-rows F read) e ∙ first-none (stops F read) (form (F .tag) .most)
+        (λ i l. goes-on i (omega (arith, l, e))) ∙ sym e)
         (λ l. first-found (stops F read) (form (F .tag) .most) (W .many) l goes-on stops-there)
         (eq-or-lt-of-le (W .few))
 

@@ -39,7 +39,8 @@ pub record RoundTrips : Type 0 where
 -- what is read out of a file, written again into a block with room, is the file
 abbrev pub File-again : Type 0
 File-again =
-    (file lent numbers block after : List ℕ) (day : Day) (written : Written) → AreBytes file → reader.Answered file lent numbers (Reading.Read day)
+    (file lent numbers block after : List ℕ) (day : Day) (written : Written) → AreBytes file
+    → reader.Answered file lent numbers (Reading.Read day)
     → writer.Answered day (take (numbers-in (day .counts)) numbers) block after written → file-size (day .counts) ≤ length block
     → (written ≡ Bytes (length file)) × (take (length file) after ≡ file)
 

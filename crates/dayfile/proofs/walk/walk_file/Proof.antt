@@ -30,7 +30,8 @@ same-length c =
     let three = four .before .before .before .before in
     let two = three .before .before .before .before in
     let one = two .before .before .before .before in
-    four .walk-table4 .kept .1 .1 .1 .0 ∙ three .walk-table3 .kept .1 .1 .1 .0 ∙ two .walk-table2 .kept .1 .1 .1 .0 ∙ one .walk-table .kept .1 .1 .1 .0
+    four .walk-table4 .kept .1 .1 .1 .0 ∙ three .walk-table3 .kept .1 .1 .1 .0 ∙ two .walk-table2 .kept .1 .1 .1 .0
+    ∙ one .walk-table .kept .1 .1 .1 .0
 
 returns : tie.Need-returns
 returns c =

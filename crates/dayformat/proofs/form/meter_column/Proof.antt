@@ -20,7 +20,8 @@ returns-4 : tie.Need-returns-4
 returns-4 c = sym (among (1 of name ∷ 2 of gigajoules ∷ 59 of hour ∷ []) (4 of gigajoules) _ _ (c .before .if3 .left) (c .if4 .taken))
 
 returns-5 : tie.Need-returns-5
-returns-5 c = sym (among (1 of name ∷ 2 of gigajoules ∷ 59 of hour ∷ 4 of gigajoules ∷ []) (2 of backhaul) _ _ (c .before .if4 .left) (c .if5 .taken))
+returns-5 c = sym (among (1 of name ∷ 2 of gigajoules ∷ 59 of hour ∷ 4 of gigajoules ∷ []) (2 of backhaul) _ _
+    (c .before .if4 .left) (c .if5 .taken))
 
 returns-6 : tie.Need-returns-6
 returns-6 c = sym (beyond (1 of name ∷ 2 of gigajoules ∷ 59 of hour ∷ 4 of gigajoules ∷ 2 of backhaul ∷ []) _ (c .if5 .left))

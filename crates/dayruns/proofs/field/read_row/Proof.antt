@@ -76,10 +76,17 @@ loop-again c =
     let turn = column .before in
     let now = turn .before in
     let start = now .before .before .before .before in (
-      reads-next (start .args .tag) (start .args .file .now) (start .args .at) (start .args .numbers .now) (start .args .to) (now .loop .place) (now .loop .byte) (now .loop .inv .0) (inside turn) (column .column-at .ensures)
+      reads-next (start .args .tag) (start .args .file .now) (start .args .at) (start .args .numbers .now) (start .args .to)
+          (now .loop .place) (now .loop .byte) (now .loop .inv .0) (inside turn) (column .column-at .ensures)
           (read .number-at .ensures) (put .put .ensures),
       omega (arith, turn .loop-test .taken),
-      omega (arith, now .loop .inv .2, narrow (start .args .tag) (now .loop .place), ap (λ column. column .width) (column .column-at .ensures)),
+      omega (
+        arith,
+        now .loop .inv .2,
+        narrow (start .args .tag) (now .loop .place),
+        ap (λ column. column .width)
+            (column .column-at .ensures),
+      ),
     )
 
 same-length : tie.Need-same-length Inv-loop μ-loop
@@ -89,7 +96,8 @@ returns : tie.Need-returns Inv-loop μ-loop
 returns c =
     let now = c .before in
     let args = now .before .before .before .before .args in
-    reads-all (args .tag) (args .file .now) (args .at) (args .numbers .now) (args .to) (now .loop .place) (now .loop .byte) (now .loop .inv .0)
+    reads-all (args .tag) (args .file .now) (args .at) (args .numbers .now) (args .to) (now .loop .place) (now .loop .byte)
+    (now .loop .inv .0)
     (omega (arith, c .loop-test .left, ap (λ form. form .columns) (now .before .form-of .ensures)))
 
 pub read-row-spec : {M : Type 1} → statement M

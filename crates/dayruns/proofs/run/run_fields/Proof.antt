@@ -31,10 +31,12 @@ abbrev start-of : tie.At-loop Inv-loop μ-loop → tie.Start Inv-loop μ-loop
 start-of c = c .before .before .before .before .before
 
 -- a field of the tag begins at the place
-on : (c : tie.Then1 Inv-loop μ-loop) → begun (start-of (c .before .before) .args .file .now) (start-of (c .before .before) .args .tag) (c .before .before .loop .place) ≡ true
+on : (c : tie.Then1 Inv-loop μ-loop) → begun (start-of (c .before .before) .args .file .now)
+    (start-of (c .before .before) .args .tag) (c .before .before .loop .place) ≡ true
 on c = sym (c .before .begins .ensures) ∙ c .if1 .taken
 
-size-is : (c : tie.After-struct-known Inv-loop μ-loop) → 3 + c .before .form-of .result .size ≡ field-size (c .before .before .before .before .args .tag)
+size-is : (c : tie.After-struct-known Inv-loop μ-loop)
+    → 3 + c .before .form-of .result .size ≡ field-size (c .before .before .before .before .args .tag)
 size-is c = ap (λ form. 3 + form .size) (c .before .form-of .ensures)
 
 form-of-requires : tie.Need-form-of-requires Inv-loop μ-loop
@@ -93,7 +95,8 @@ loop-again c =
     let took = c .before .before .before in
     let begins = took .before .before in
     let now = begins .before .before in
-    rw (size-is (now .before)) (going-next (fields (start-of now)) _ (now .loop .inv) (on begins) (took .take-field .ensures) (c .if2 .left))
+    rw (size-is (now .before)) (going-next (fields (start-of now)) _ (now .loop .inv) (on begins) (took .take-field .ensures)
+    (c .if2 .left))
 
 same-length-2 : tie.Need-same-length-2 Inv-loop μ-loop
 same-length-2 c =

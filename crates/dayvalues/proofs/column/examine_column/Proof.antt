@@ -45,7 +45,8 @@ keep-requires-3 c κs = search needs
 first : (c : tie.After-keep2)
     → c .keep2 .result
     ≡ (Check.Accepted
-    then keep (eqb (length (c .before .before .before .before .before .args .numbers .now)) (numbers-in (c .before .before .before .before .before .args .counts))) 9
+    then keep (eqb (length (c .before .before .before .before .before .args .numbers .now))
+    (numbers-in (c .before .before .before .before .before .args .counts))) 9
     then keep (leb (count (c .before .before .before .before .before .args .counts) Shipper) most-rows) 3)
 first c = rw (c .keep2 .ensures, c .before .keep .ensures, c .before .before .numbers-of .ensures .0)
 

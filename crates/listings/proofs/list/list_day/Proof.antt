@@ -36,8 +36,12 @@ slice-aggregate-put-shares-2 c = search needs
 slice-aggregate-put-shares-3 : tie.Need-slice-aggregate-put-shares-3
 slice-aggregate-put-shares-3 c = search needs
 
-sound-of : (c : tie.After-known-told2) → Sound (c .before .before .before .before .before .before .before .before .before .before .before .before .args .day) (c .before .before .before .before .before .before .before .before .before .before .before .before .args .numbers .now)
-sound-of c = let start = c .before .before .before .before .before .before .before .before .before .before .before .before in accepting (start .args .day) (start .args .numbers .now) (start .pre)
+sound-of : (c : tie.After-known-told2) → Sound
+    (c .before .before .before .before .before .before .before .before .before .before .before .before .args .day)
+    (c .before .before .before .before .before .before .before .before .before .before .before .before .args .numbers .now)
+sound-of c =
+    let start = c .before .before .before .before .before .before .before .before .before .before .before .before in
+    accepting (start .args .day) (start .args .numbers .now) (start .pre)
 
 put-shares-requires : tie.Need-put-shares-requires
 put-shares-requires c κs =
@@ -56,7 +60,8 @@ returns c =
     let told = laid .before .before .before .before .before in
     let start = told .before .before .before .before .before .before .before .before .before .before .before .before in
     let is =
-    text-is (start .args .day) (start .args .numbers .now) (sound-of told) (told .before .before .before .before .before .before .share-numbers .ensures) (told .before .shared2 .given .1)
+    text-is (start .args .day) (start .args .numbers .now) (sound-of told)
+    (told .before .before .before .before .before .before .share-numbers .ensures) (told .before .shared2 .given .1)
     in too-long (rw is at (laid .put-shares .ensures)) _ (c .plain .ensures) (c .before .if1 .taken)
 
 slice-aggregate-put-shares-4 : tie.Need-slice-aggregate-put-shares-4
@@ -87,7 +92,8 @@ returns-3 c =
     let told = laid .before .before .before .before .before in
     let start = told .before .before .before .before .before .before .before .before .before .before .before .before in
     let is =
-    text-is (start .args .day) (start .args .numbers .now) (sound-of told) (told .before .before .before .before .before .before .share-numbers .ensures) (told .before .shared2 .given .1)
+    text-is (start .args .day) (start .args .numbers .now) (sound-of told)
+    (told .before .before .before .before .before .before .share-numbers .ensures) (told .before .shared2 .given .1)
     in fits (rw is at (laid .put-shares .ensures)) (else .if1 .left) (rw is at (again .put-shares2 .ensures))
 
 pub list-day-spec : {M : Type 1} → statement M

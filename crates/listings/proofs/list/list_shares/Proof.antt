@@ -31,7 +31,8 @@ array-share-prefix-numbers c =
     let read = count .before .before .before .before .before in
     let given = count .before .before .reading2 .given in
     rw (count .numbers-of .ensures .0)
-    (part-inside (read .before .before .before .before .args .file .now) _ _ (given .0 .0) (bytes-of read) (rw (given .1) at (read .read-day .ensures)) (read .read-day .kept .1 .0))
+    (part-inside (read .before .before .before .before .args .file .now) _ _ (given .0 .0) (bytes-of read)
+    (rw (given .1) at (read .read-day .ensures)) (read .read-day .kept .1 .0))
 
 slice-aggregate-list-day : tie.Need-slice-aggregate-list-day
 slice-aggregate-list-day c =
@@ -39,7 +40,8 @@ slice-aggregate-list-day c =
     let read = count .before .before .before .before .before in
     let given = count .before .before .reading2 .given in
     rw (count .numbers-of .ensures .0)
-    (part-long (read .before .before .before .before .args .file .now) _ _ (given .0 .0) (bytes-of read) (rw (given .1) at (read .read-day .ensures)) (read .read-day .kept .1 .0))
+    (part-long (read .before .before .before .before .args .file .now) _ _ (given .0 .0) (bytes-of read)
+    (rw (given .1) at (read .read-day .ensures)) (read .read-day .kept .1 .0))
 
 list-day-requires : tie.Need-list-day-requires
 list-day-requires c κs =
@@ -47,12 +49,14 @@ list-day-requires c κs =
     let read = count .before .before .before .before .before in
     let given = count .before .before .reading2 .given in
     rw (count .numbers-of .ensures .0)
-    (part-sound (read .before .before .before .before .args .file .now) _ _ (given .0 .0) (bytes-of read) (rw (given .1) at (read .read-day .ensures)))
+    (part-sound (read .before .before .before .before .args .file .now) _ _ (given .0 .0) (bytes-of read)
+    (rw (given .1) at (read .read-day .ensures)))
 
 returns : tie.Need-returns
 returns c =
     let read = c .before .before .before .before in
-    lists-refusal _ _ _ (bytes-of read) (length-replicate {A = ℕ} 6_880 0) _ (rw (c .before .reading .given .1) at (read .read-day .ensures)) _ _
+    lists-refusal _ _ _ (bytes-of read) (length-replicate {A = ℕ} 6_880 0) _
+    (rw (c .before .reading .given .1) at (read .read-day .ensures)) _ _
 
 same-length : tie.Need-same-length
 same-length c = search needs
@@ -63,7 +67,8 @@ returns-2 c =
     let count = listed .before .before .before in
     let read = count .before .before .before .before .before in
     let given = count .before .before .reading2 .given in
-    lists-day (read .before .before .before .before .args .file .now) _ _ (given .0 .0) (bytes-of read) (rw (given .1) at (read .read-day .ensures))
+    lists-day (read .before .before .before .before .args .file .now) _ _ (given .0 .0) (bytes-of read)
+    (rw (given .1) at (read .read-day .ensures))
     (rw (count .numbers-of .ensures .0) at (listed .list-day .ensures))
 
 pub list-shares-spec : {M : Type 1} → statement M

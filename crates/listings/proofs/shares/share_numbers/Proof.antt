@@ -24,7 +24,8 @@ sound-of c = accepting (start-of c .args .day) (start-of c .args .numbers .now) 
 
 column-kept : (c : tie.After-struct-known) (place : ℕ) → place < 6
     → check (start-of c .args .day .counts) (start-of c .args .numbers .now) place most-rows ≡ Accepted
-column-kept c place few = column-accepts (start-of c .args .day) (start-of c .args .numbers .now) (sound-of c) place most-rows few (omega arith)
+column-kept c place few = column-accepts (start-of c .args .day) (start-of c .args .numbers .now) (sound-of c) place most-rows few
+    (omega arith)
 
 column-of-requires : tie.Need-column-of-requires
 column-of-requires c κs = column-kept c 1 (omega arith)
@@ -44,52 +45,62 @@ column-of-requires-5 c κs = column-kept (c .before .before .before .before) 5 (
 array-share-prefix-firm-mdq : tie.Need-array-share-prefix-firm-mdq
 array-share-prefix-firm-mdq c =
     let known = c .before .before .before .before .before in
-    part-inside (start-of known .args .day) (start-of known .args .numbers .now) 1 (sound-of known .few Shipper) (c .before .before .before .before .column-of .ensures)
+    part-inside (start-of known .args .day) (start-of known .args .numbers .now) 1 (sound-of known .few Shipper)
+    (c .before .before .before .before .column-of .ensures)
 
 slice-aggregate-share-day : tie.Need-slice-aggregate-share-day
 slice-aggregate-share-day c =
     let known = c .before .before .before .before .before .before in
-    part-long (start-of known .args .day) (start-of known .args .numbers .now) 1 (sound-of known .few Shipper) (c .before .before .before .before .before .column-of .ensures)
+    part-long (start-of known .args .day) (start-of known .args .numbers .now) 1 (sound-of known .few Shipper)
+    (c .before .before .before .before .before .column-of .ensures)
 
 array-share-prefix-auction-mdq : tie.Need-array-share-prefix-auction-mdq
 array-share-prefix-auction-mdq c =
     let known = c .before .before .before .before .before .before in
-    part-inside (start-of known .args .day) (start-of known .args .numbers .now) 2 (sound-of known .few Shipper) (c .before .before .before .before .column-of2 .ensures)
+    part-inside (start-of known .args .day) (start-of known .args .numbers .now) 2 (sound-of known .few Shipper)
+    (c .before .before .before .before .column-of2 .ensures)
 
 slice-aggregate-share-day-2 : tie.Need-slice-aggregate-share-day-2
 slice-aggregate-share-day-2 c =
     let known = c .before .before .before .before .before .before .before in
-    part-long (start-of known .args .day) (start-of known .args .numbers .now) 2 (sound-of known .few Shipper) (c .before .before .before .before .before .column-of2 .ensures)
+    part-long (start-of known .args .day) (start-of known .args .numbers .now) 2 (sound-of known .few Shipper)
+    (c .before .before .before .before .before .column-of2 .ensures)
 
 array-share-prefix-firm-schedule : tie.Need-array-share-prefix-firm-schedule
 array-share-prefix-firm-schedule c =
     let known = c .before .before .before .before .before .before .before in
-    part-inside (start-of known .args .day) (start-of known .args .numbers .now) 3 (sound-of known .few Shipper) (c .before .before .before .before .column-of3 .ensures)
+    part-inside (start-of known .args .day) (start-of known .args .numbers .now) 3 (sound-of known .few Shipper)
+    (c .before .before .before .before .column-of3 .ensures)
 
 slice-aggregate-share-day-3 : tie.Need-slice-aggregate-share-day-3
 slice-aggregate-share-day-3 c =
     let known = c .before .before .before .before .before .before .before .before in
-    part-long (start-of known .args .day) (start-of known .args .numbers .now) 3 (sound-of known .few Shipper) (c .before .before .before .before .before .column-of3 .ensures)
+    part-long (start-of known .args .day) (start-of known .args .numbers .now) 3 (sound-of known .few Shipper)
+    (c .before .before .before .before .before .column-of3 .ensures)
 
 array-share-prefix-auction-schedule : tie.Need-array-share-prefix-auction-schedule
 array-share-prefix-auction-schedule c =
     let known = c .before .before .before .before .before .before .before .before in
-    part-inside (start-of known .args .day) (start-of known .args .numbers .now) 4 (sound-of known .few Shipper) (c .before .before .before .before .column-of4 .ensures)
+    part-inside (start-of known .args .day) (start-of known .args .numbers .now) 4 (sound-of known .few Shipper)
+    (c .before .before .before .before .column-of4 .ensures)
 
 slice-aggregate-share-day-4 : tie.Need-slice-aggregate-share-day-4
 slice-aggregate-share-day-4 c =
     let known = c .before .before .before .before .before .before .before .before .before in
-    part-long (start-of known .args .day) (start-of known .args .numbers .now) 4 (sound-of known .few Shipper) (c .before .before .before .before .before .column-of4 .ensures)
+    part-long (start-of known .args .day) (start-of known .args .numbers .now) 4 (sound-of known .few Shipper)
+    (c .before .before .before .before .before .column-of4 .ensures)
 
 array-share-prefix-lower-tier-schedule : tie.Need-array-share-prefix-lower-tier-schedule
 array-share-prefix-lower-tier-schedule c =
     let known = c .before .before .before .before .before .before .before .before .before in
-    part-inside (start-of known .args .day) (start-of known .args .numbers .now) 5 (sound-of known .few Shipper) (c .before .before .before .before .column-of5 .ensures)
+    part-inside (start-of known .args .day) (start-of known .args .numbers .now) 5 (sound-of known .few Shipper)
+    (c .before .before .before .before .column-of5 .ensures)
 
 slice-aggregate-share-day-5 : tie.Need-slice-aggregate-share-day-5
 slice-aggregate-share-day-5 c =
     let known = c .before .before .before .before .before .before .before .before .before .before in
-    part-long (start-of known .args .day) (start-of known .args .numbers .now) 5 (sound-of known .few Shipper) (c .before .before .before .before .before .column-of5 .ensures)
+    part-long (start-of known .args .day) (start-of known .args .numbers .now) 5 (sound-of known .few Shipper)
+    (c .before .before .before .before .before .column-of5 .ensures)
 
 share-day-requires : tie.Need-share-day-requires
 share-day-requires c κs = search needs

@@ -77,7 +77,8 @@ returns c =
     let day-figure = firm .before .before .before .before .before in
     let day = day-figure .before .before .before .before in
     let laid =
-    head-laid _ _ _ (day .put-word .ensures) (day-figure .put-figure .ensures .0) (firm .put-word2 .ensures) (firm-figure .put-figure2 .ensures .0)
+    head-laid _ _ _ (day .put-word .ensures) (day-figure .put-figure .ensures .0) (firm .put-word2 .ensures)
+    (firm-figure .put-figure2 .ensures .0)
     (left .put-word3 .ensures) (line .put-line .ensures .0)
     in (
       laid,
