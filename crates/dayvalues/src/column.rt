@@ -71,6 +71,13 @@ fn examine_column(counts: Counts, numbers: &[usize], place: u32, room: usize) ->
     }
 }
 
+// The first test that a column fails, with room for so many rows.
+pub fn check_column(counts: Counts, numbers: &[usize], which: ShipperColumn, room: usize) -> Check
+    ensures { λ r. ⌜ r ≡ check counts (now (numbers .entry)) (place-of which) room ⌝ }
+{
+    examine_column(counts, numbers, place_of(which), room)
+}
+
 // Each row's number at a place to the front of a list.
 fn fill_column(counts: Counts, numbers: &[usize], place: u32, out: &mut [u32])
     requires { ⌜ Fillable counts (col (now numbers)) place (now out) ⌝ }

@@ -6,6 +6,7 @@ mod shippers;
 
 pub use column::Listed;
 pub use column::ShipperColumn;
+pub use column::check_column;
 pub use column::shipper_column;
 pub use points::Point;
 pub use points::PointRow;

@@ -1,6 +1,6 @@
 -- Lines laid word after word, and texts laid where the block ends.
 use mathlib.Core.Path.{_≡_, refl, ap, sym, _∙_}
-use mathlib.Core.List.{List, [], _∷_, _++_}
+use mathlib.Core.List.{List, [], _∷_, _++_, append-assoc}
 use Prim.Native.Nat.{ℕ, suc, _+_, _-_, _≤_, _<_, min}
 use native.Mathlib.Nat.{add-zero, zero-add, add-assoc}
 use native.Mathlib.Numerals.{add-one}
@@ -12,7 +12,7 @@ use Rattle.columns.specs.Column.{col}
 use Rattle.units.specs.declared.refusal.Refusal.{Refusal}
 use Rattle.text.specs.Text.{decimal, Laid}
 use Rattle.text.proofs.Laying.{laid-both}
-use Rattle.lines.specs.Line.{most-figures, spaced, decimals, line, title, refused}
+use Rattle.lines.specs.Line.{most-figures, spaced, labelled, decimals, line, title, refused}
 
 -- a text and the byte that ends it
 pub laid-ended : {bytes lent between after : List ℕ} {at m : ℕ} (byte : ℕ) → Laid bytes lent at m between
@@ -25,6 +25,12 @@ pub line-word : (word next : List ℕ) (words : List (List ℕ)) {lent between a
     → Laid (line (next ∷ words)) between (at + m) n after → Laid (line (word ∷ next ∷ words)) lent at (m + n) after
 unfolding line
 line-word word next words a b = laid-both a b
+
+-- for callers: a word with its figure is a line's two first words
+pub line-labelled : (word next : List ℕ) (figure : ℕ) (words : List (List ℕ))
+    → line (word ∷ decimal figure ∷ next ∷ words) ≡ labelled word figure ++ line (next ∷ words)
+unfolding line
+line-labelled word next figure words = sym (append-assoc (spaced word) (spaced (decimal figure)) (line (next ∷ words)))
 
 -- ---- from the block's end on nothing is laid
 sets-past : (bytes list : List ℕ) (from : ℕ) → length list ≤ from → sets list from bytes ≡ list

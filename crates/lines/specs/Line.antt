@@ -8,6 +8,10 @@ use Rattle.text.specs.Text.{decimal}
 abbrev pub spaced : List ℕ → List ℕ
 spaced word = word ++ (32 ∷ [])
 
+-- a word and its figure, each with a space
+abbrev pub labelled : List ℕ → ℕ → List ℕ
+labelled word figure = spaced word ++ spaced (decimal figure)
+
 -- words separated by single spaces, then the line end
 unfoldable pub line : List (List ℕ) → List ℕ
 line [] = 10 ∷ []

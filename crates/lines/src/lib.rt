@@ -5,11 +5,11 @@ use text::put_decimal;
 use units::Refusal;
 ghost use mathlib.Core.Path.{_≡_};
 ghost use mathlib.Core.List.{[], _∷_, _++_};
-ghost use Prim.Native.Nat.{_^_, _≤_, _<_, min};
+ghost use Prim.Native.Nat.{_+_, _^_, _≤_, _<_, min};
 ghost use lib.ListN.{length, take};
 ghost use Rattle.text.specs.Text.{decimal, Laid};
 ghost use Rattle.units.specs.declared.refusal.Check.the-variants.{Accepted};
-ghost use Rattle.lines.specs.Line.{most-figures, spaced, decimals, line, refused};
+ghost use Rattle.lines.specs.Line.{most-figures, spaced, labelled, decimals, line, refused};
 ghost use Rattle.lines.specs.Answer.{Listed};
 
 const LINE_END: u8 = 10;
@@ -38,6 +38,16 @@ pub fn put_figure(figure: u64, text: &mut [u8], at: usize) -> usize
     ensures { λ r. ⌜ (Laid (spaced (decimal figure)) (now (text .entry)) at r (now (text .exit))) × (r ≤ 21) ⌝ }
 {
     put_ended(figure, SPACE, text, at)
+}
+
+// Lays a word and a figure, each with a space.
+pub fn put_labelled(word: &[u8], figure: u64, text: &mut [u8], at: usize) -> usize
+    ensures { λ r. ⌜ (Laid (labelled (now (word .entry)) figure) (now (text .entry)) at r (now (text .exit)))
+        × (r ≤ length (now (word .entry)) + 22) ⌝ }
+{
+    let from = lesser(at, text.len());
+    let length = put_word(word, text, from);
+    length + put_figure(figure, text, from + length)
 }
 
 // Lays a line of figures. From the block's end on nothing is laid, so a place past it counts as its end.

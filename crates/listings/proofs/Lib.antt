@@ -3,6 +3,4 @@ pub mod Lines
 pub mod OverrunsAccept
 pub mod ReadSound
 pub mod SharesAccept
-pub mod Sharing
-pub mod TextIs
 pub mod Listing

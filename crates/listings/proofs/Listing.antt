@@ -31,7 +31,6 @@ use Rattle.dayfile.specs.Answer as reader
 use Rattle.daywriter.specs.Acceptance.{sound}
 use Rattle.roundtrip.proofs.FileAgain.{day-accepted}
 use Rattle.roundtrip.proofs.OnRoutines.{told, reads-day, lent-room, taken-numbers}
-use Rattle.listings.specs.SharesText.{shares-text, file-text}
 use Rattle.listings.proofs.ReadSound.{read-sound}
 
 -- every day that is read has room among so many numbers
@@ -78,11 +77,12 @@ module _ (file lent numbers : List ℕ) (day : Day) (are : AreBytes file) (R : r
   pub part-sound : sound day (take (numbers-in (day .counts)) numbers) ≡ Accepted
   part-sound = rw (part-is, told file lent numbers day R .1) (day-accepted file are (reads-day file lent numbers day R .accepted))
 
-  pub lists-day : {block after : List ℕ} {listing : Listing}
-      → Listed Accepted (shares-text day (col (take (numbers-in (day .counts)) numbers))) block after listing
-      → Listed (file-check (walked file)) (file-text file) block after listing
+  -- whatever text a listing makes of a day and its numbers
+  pub lists-day : (text : Day → (ℕ → ℕ) → List ℕ) {block after : List ℕ} {listing : Listing}
+      → Listed Accepted (text day (col (take (numbers-in (day .counts)) numbers))) block after listing
+      → Listed (file-check (walked file)) (text (day-of file) (col (tables file .numbers))) block after listing
   unfolding reader.check
-  lists-day L =
+  lists-day text L =
       let accepted = both-accepted (file-check (walked file)) _ (told file lent numbers day R .0) .0 in
       rw accepted (rw (part-is, told file lent numbers day R .1) at L)
 

@@ -3,7 +3,7 @@ use mathlib.Core.Path.{_≡_, refl, ap, sym, _∙_}
 use mathlib.Core.Bool.{Bool, true, false, cond, not, true≢false}
 use mathlib.Core.List.{List}
 use Prim.Native.Nat.{ℕ, _-_, _≤_, _<_}
-use native.Mathlib.Nat.{le-of-eq}
+use native.Mathlib.Nat.{le-refl, le-of-eq}
 use native.Mathlib.Omega.{arith}
 use borrow.Author.Tests.{eq-eqb, le-leb, le-ltb, lt-ltb}
 use lib.ListN.{length}
@@ -28,7 +28,9 @@ use Rattle.daywriter.proofs.Accepting.{Sound}
 use Rattle.dayvalues.specs.Column.{column}
 use Rattle.dayvalues.specs.Column as values
 use Rattle.dayvalues.specs.Row.{beyond}
-use Rattle.listings.specs.DayTable.{table-of}
+use Rattle.numbershares.specs.DayTable.{table-of}
+use Rattle.numbershares.specs.Answer.{columns-check}
+use Rattle.numbershares.specs.Answer as numbershares
 
 -- one of two that are not
 neither : (a b : Bool) → not (cond a true b) ≡ true → (a ≡ false) × (b ≡ false)
@@ -147,3 +149,20 @@ module _ (day : Day) (numbers : List ℕ) (S : Sound day numbers) where
       ap not
       (passes-bounded File (day .counts) (col numbers) Shipper row (S .passes Shipper tt Test.Bounds row k) .1 place few)))))))
       (accepts-kept 7 (le-leb many room (omega (arith, S .few Shipper, l))))
+
+  columns-accept : columns-check (day .counts) numbers ≡ Check.Accepted
+  unfolding columns-check
+  columns-accept =
+      accepts-both
+      (accepts-both
+      (accepts-both
+      (accepts-both (column-accepts 1 64 (omega arith) (le-refl 64)) (column-accepts 2 64 (omega arith) (le-refl 64)))
+      (column-accepts 3 64 (omega arith) (le-refl 64)))
+      (column-accepts 4 64 (omega arith) (le-refl 64)))
+      (column-accepts 5 64 (omega arith) (le-refl 64))
+
+  -- so the shares accept a day's numbers
+  pub numbers-accept : (firm auction lower-tier : ℕ) → 64 ≤ firm → 64 ≤ auction → 64 ≤ lower-tier
+      → numbershares.check day numbers firm auction lower-tier ≡ Check.Accepted
+  unfolding numbershares.check
+  numbers-accept firm auction lower-tier f a l = accepts-both columns-accept (shares-accept firm auction lower-tier f a l)

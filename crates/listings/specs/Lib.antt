@@ -1,3 +1,1 @@
-pub mod DayTable
 pub mod MeterDay
-pub mod SharesText

@@ -1,6 +1,1 @@
-// From a day file's bytes to the text that a program prints.
-mod list;
-mod shares;
-mod sharestext;
-
-pub use list::list_shares;
+// What the reader accepts, the routines that a listing calls accept; and how a listing's text is laid: theorems and laws.

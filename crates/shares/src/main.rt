@@ -5,7 +5,7 @@ fn main() {
     let mut file = io::large_buffer();
     let mut text = io::buffer();
     let got = io::read_full(0, &mut file);
-    let listing = listings::list_shares(&file[..got], &mut text);
+    let listing = sharelisting::list_shares(&file[..got], &mut text);
     match listing {
         Listing::Text(size) => print(&text, size),
         Listing::Refused(refusal) => {

@@ -1,0 +1,21 @@
+-- What a day's shares are shared from: the head's capacities and the shipper table's columns.
+use Prim.Native.Nat.{ℕ}
+use Rattle.columns.specs.Column.{listed}
+use Rattle.daytable.specs.Table.{Table}
+use Rattle.dayformat.specs.declared.day.Day.{Day}
+use Rattle.dayformat.specs.declared.form.Tag.the-variants.{Shipper}
+use Rattle.dayformat.specs.Layout.{count}
+use Rattle.dayvalues.specs.Column.{column}
+
+-- tag 2: shipper, firm MDQ, auction MDQ, firm, auction and lower tier schedules
+abbrev pub table-of : Day → (ℕ → ℕ) → Table
+table-of day numbers =
+    record {
+      free-flow = day .head .«free_flow» .0;
+      compressor = day .head .compressor .0;
+      firm-mdq = listed (count (day .counts) Shipper) (column (day .counts) numbers 1);
+      auction-mdq = listed (count (day .counts) Shipper) (column (day .counts) numbers 2);
+      firm-schedule = listed (count (day .counts) Shipper) (column (day .counts) numbers 3);
+      auction-schedule = listed (count (day .counts) Shipper) (column (day .counts) numbers 4);
+      lower-tier-schedule = listed (count (day .counts) Shipper) (column (day .counts) numbers 5);
+    }

@@ -1,0 +1,2 @@
+pub mod DayTable
+pub mod Answer

@@ -1,0 +1,95 @@
+// A day's shares from its numbers, opened.
+use dayformat::Counts;
+use dayformat::Day;
+use dayshares::share_day;
+use dayvalues::ShipperColumn;
+use dayvalues::check_column;
+use dayvalues::shipper_column;
+use units::Check;
+use units::MOST_ROWS;
+ghost use mathlib.Core.Path.{_≡_};
+ghost use lib.ListN.{replicate};
+ghost use Rattle.columns.specs.Column.{col};
+ghost use Rattle.units.specs.Bound.{most-rows};
+ghost use Rattle.units.specs.declared.refusal.Check.the-variants.{Accepted};
+ghost use Rattle.dayshares.specs.Answer as dayshares;
+ghost use Rattle.dayvalues.specs.Column.{place-of, check, with-column};
+ghost use Rattle.numbershares.specs.DayTable.{table-of};
+ghost use Rattle.numbershares.specs.Answer.{columns-check, Answered};
+
+// The first test that one of the five columns fails, in tag 2's order.
+fn check_columns(counts: Counts, numbers: &[usize]) -> Check
+    ensures { λ r. ⌜ r ≡ columns-check counts (now (numbers .entry)) ⌝ }
+{
+    check_column(counts, numbers, ShipperColumn::FirmMdq, MOST_ROWS)
+        .then(check_column(counts, numbers, ShipperColumn::AuctionMdq, MOST_ROWS))
+        .then(check_column(counts, numbers, ShipperColumn::FirmSchedule, MOST_ROWS))
+        .then(check_column(counts, numbers, ShipperColumn::AuctionSchedule, MOST_ROWS))
+        .then(check_column(counts, numbers, ShipperColumn::LowerTierSchedule, MOST_ROWS))
+}
+
+// A column of gigajoules, zeros past its rows.
+fn column_of(counts: Counts, numbers: &[usize], which: ShipperColumn) -> [u32; 64]
+    requires { ⌜ check counts (now numbers) (place-of which) most-rows ≡ Accepted ⌝ }
+    ensures { λ r. ⌜ r ≡ with-column counts (col (now (numbers .entry))) (place-of which) (replicate most-rows 0) ⌝ }
+{
+    let mut column = [0u32; MOST_ROWS];
+    shipper_column(counts, numbers, which, &mut column);
+    column
+}
+
+// Shares the day's table out.
+fn share_columns(
+    day: Day,
+    numbers: &[usize],
+    firm: &mut [u32],
+    auction: &mut [u32],
+    lower_tier: &mut [u32],
+) -> dayshares::Day
+    requires { ⌜ columns-check (day .counts) (now numbers) ≡ Accepted ⌝ }
+    ensures { λ r. ⌜ dayshares.Answered (table-of day (col (now (numbers .entry))))
+        (now (firm .entry)) (now (auction .entry)) (now («lower_tier» .entry))
+        r
+        (now (firm .exit)) (now (auction .exit)) (now («lower_tier» .exit)) ⌝ }
+{
+    let head = day.head;
+    let counts = day.counts;
+    let rows = counts.shippers as usize;
+    let firm_mdq = column_of(counts, numbers, ShipperColumn::FirmMdq);
+    let auction_mdq = column_of(counts, numbers, ShipperColumn::AuctionMdq);
+    let firm_schedule = column_of(counts, numbers, ShipperColumn::FirmSchedule);
+    let auction_schedule = column_of(counts, numbers, ShipperColumn::AuctionSchedule);
+    let lower_tier_schedule = column_of(counts, numbers, ShipperColumn::LowerTierSchedule);
+    share_day(
+        head.free_flow,
+        head.compressor,
+        &firm_mdq[..rows],
+        &auction_mdq[..rows],
+        &firm_schedule[..rows],
+        &auction_schedule[..rows],
+        &lower_tier_schedule[..rows],
+        firm,
+        auction,
+        lower_tier,
+    )
+}
+
+// Each class's shares go to the front of its list; a refusal leaves all three as they were.
+pub fn share_numbers(
+    day: Day,
+    numbers: &[usize],
+    firm: &mut [u32],
+    auction: &mut [u32],
+    lower_tier: &mut [u32],
+) -> dayshares::Day
+    ensures { λ r. ⌜ Answered day (now (numbers .entry))
+        (now (firm .entry)) (now (auction .entry)) (now («lower_tier» .entry))
+        r
+        (now (firm .exit)) (now (auction .exit)) (now («lower_tier» .exit)) ⌝ }
+{
+    let found = check_columns(day.counts, numbers);
+    match found {
+        Check::Refused(refusal) => dayshares::Day::Refused(refusal),
+        Check::Accepted => share_columns(day, numbers, firm, auction, lower_tier),
+    }
+}
