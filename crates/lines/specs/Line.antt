@@ -26,6 +26,10 @@ decimals figures = map decimal figures
 abbrev pub most-figures : ℕ
 most-figures = 64
 
+-- DAY, with which a listing begins
+abbrev pub day-word : List ℕ
+day-word = 68 ∷ 65 ∷ 89 ∷ []
+
 -- REFUSED
 abbrev pub title : List ℕ
 title = 82 ∷ 69 ∷ 70 ∷ 85 ∷ 83 ∷ 69 ∷ 68 ∷ []

@@ -1,7 +1,8 @@
 -- Texts laid one after another make a text.
 use mathlib.Core.Path.{_≡_, refl, ap, _∙_}
 use mathlib.Core.List.{List}
-use Prim.Native.Nat.{ℕ, _+_}
+use Prim.Native.Nat.{ℕ, _+_, _≤_}
+use native.Mathlib.Nat.{le-antisymm}
 use native.Mathlib.Numerals.{add-one}
 use native.Mathlib.Omega.{arith}
 use lib.ListN.{length}
@@ -20,6 +21,11 @@ module _ (f : ℕ → List ℕ) {lent : List ℕ} {at : ℕ} where
       → Laid (joined (row + 1) f) lent at (size + m) after
   unfolding joined
   texts-more a b = rw add-one (laid-both a b)
+
+  -- no row is left
+  pub texts-all : {row many size : ℕ} {list : List ℕ} → row ≤ many → many ≤ row → Laid (joined row f) lent at size list
+      → Laid (joined many f) lent at size list
+  texts-all {row} {many} h l L = let all : many ≡ row = le-antisymm l h in rw all L
 
 -- what is laid keeps the block's length
 pub laid-long : {bytes lent after : List ℕ} {at m : ℕ} → Laid bytes lent at m after → length after ≡ length lent

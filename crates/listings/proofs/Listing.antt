@@ -7,7 +7,6 @@ use native.Mathlib.Omega.{arith}
 use borrow.Author.Tests.{le-leb}
 use lib.ListN.{length, take}
 use lib.Seq.{length-take-le}
-use Rattle.columns.specs.Column.{col}
 use Rattle.bigendian.specs.Number.{AreBytes}
 use Rattle.units.specs.declared.refusal.Refusal.{Refusal}
 use Rattle.units.specs.declared.refusal.Check.{Check}
@@ -78,9 +77,9 @@ module _ (file lent numbers : List ℕ) (day : Day) (are : AreBytes file) (R : r
   part-sound = rw (part-is, told file lent numbers day R .1) (day-accepted file are (reads-day file lent numbers day R .accepted))
 
   -- whatever text a listing makes of a day and its numbers
-  pub lists-day : (text : Day → (ℕ → ℕ) → List ℕ) {block after : List ℕ} {listing : Listing}
-      → Listed Accepted (text day (col (take (numbers-in (day .counts)) numbers))) block after listing
-      → Listed (file-check (walked file)) (text (day-of file) (col (tables file .numbers))) block after listing
+  pub lists-day : (text : Day → List ℕ → List ℕ) {block after : List ℕ} {listing : Listing}
+      → Listed Accepted (text day (take (numbers-in (day .counts)) numbers)) block after listing
+      → Listed (file-check (walked file)) (text (day-of file) (tables file .numbers)) block after listing
   unfolding reader.check
   lists-day text L =
       let accepted = both-accepted (file-check (walked file)) _ (told file lent numbers day R .0) .0 in

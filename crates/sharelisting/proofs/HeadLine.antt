@@ -2,9 +2,9 @@
 use mathlib.Core.List.{List, [], _∷_}
 use Prim.Native.Nat.{ℕ, _+_}
 use Rattle.text.specs.Text.{decimal, Laid}
-use Rattle.lines.specs.Line.{spaced, labelled, line, decimals}
+use Rattle.lines.specs.Line.{spaced, labelled, line, decimals, day-word}
 use Rattle.lines.proofs.Lining.{line-labelled, lining-first, lining-next}
-use Rattle.sharelisting.specs.SharesText.{day-word, firm-word, left-word, head-line}
+use Rattle.sharelisting.specs.SharesText.{firm-word, left-word, head-line}
 
 pub head-laid : (day firm left : ℕ) {lent l₁ l₂ l₃ after : List ℕ} {at m₁ m₂ m₃ m₄ : ℕ} → Laid (labelled day-word day) lent at m₁ l₁
     → Laid (labelled firm-word firm) l₁ (at + m₁) m₂ l₂ → Laid (spaced left-word) l₂ (at + (m₁ + m₂)) m₃ l₃

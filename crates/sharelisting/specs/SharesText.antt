@@ -3,7 +3,7 @@ use mathlib.Core.List.{List, [], _∷_, _++_}
 use Prim.Native.Nat.{ℕ}
 use Rattle.columns.specs.Column.{col}
 use Rattle.text.specs.Text.{decimal}
-use Rattle.lines.specs.Line.{line, decimals}
+use Rattle.lines.specs.Line.{line, decimals, day-word}
 use Rattle.dayshares.specs.Given.{firm-given, firm-total, auction-given, lower-tier-given, left}
 use Rattle.dayformat.specs.declared.day.Day.{Day}
 use Rattle.dayformat.specs.declared.form.Tag.the-variants.{Shipper}
@@ -14,10 +14,7 @@ use Rattle.dayfile.specs.Answer.{day-of}
 use Rattle.dayvalues.specs.Shippers.{shipper-of}
 use Rattle.numbershares.specs.DayTable.{table-of}
 
--- DAY, FIRM, LEFT
-abbrev pub day-word : List ℕ
-day-word = 68 ∷ 65 ∷ 89 ∷ []
-
+-- FIRM, LEFT
 abbrev pub firm-word : List ℕ
 firm-word = 70 ∷ 73 ∷ 82 ∷ 77 ∷ []
 

@@ -2,6 +2,7 @@
 use Prim.Native.Nat.{ℕ}
 use lib.ListN.{length-replicate}
 use Rattle.bigendian.specs.Number.{AreBytes}
+use Rattle.columns.specs.Column.{col}
 use Rattle.sharelisting.specs.SharesText.{shares-text}
 use Rattle.listings.proofs.Listing.{lists-refusal, part-sound, part-inside, part-long, lists-day}
 use borrow.Author.Needs.{needs}
@@ -69,7 +70,7 @@ returns-2 c =
     let read = count .before .before .before .before .before in
     let given = count .before .before .reading2 .given in
     lists-day (read .before .before .before .before .args .file .now) _ _ (given .0 .0) (bytes-of read)
-    (rw (given .1) at (read .read-day .ensures)) shares-text
+    (rw (given .1) at (read .read-day .ensures)) (λ day numbers. shares-text day (col numbers))
     (rw (count .numbers-of .ensures .0) at (listed .list-day .ensures))
 
 pub list-shares-spec : {M : Type 1} → statement M

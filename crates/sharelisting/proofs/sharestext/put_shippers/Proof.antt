@@ -1,13 +1,11 @@
 -- A line for each row that the loop has gone over stands from the place on.
 use Prim.Native.Nat.{_-_, _*_, _≤_}
-use mathlib.Core.Path.{_≡_}
-use native.Mathlib.Nat.{le-antisymm}
 use native.Mathlib.Omega.{arith}
 use Rattle.columns.specs.Column.{col}
 use Rattle.text.specs.Text.{Laid}
 use Rattle.dayvalues.specs.Shippers.{shipper-of}
 use Rattle.sharelisting.specs.SharesText.{shipper-lines}
-use Rattle.listings.proofs.Lines.{texts-none, texts-more, laid-long}
+use Rattle.listings.proofs.Lines.{texts-none, texts-more, texts-all, laid-long}
 use borrow.Author.Needs.{needs}
 use Rattle.sharelisting.proofs.sharestext.put_shippers.Statement.{statement}
 use Rattle.sharelisting.proofs.sharestext.put_shippers.Tie as tie
@@ -96,8 +94,7 @@ returns : tie.Need-returns Inv-loop μ-loop
 returns c =
     let now = c .before .loop in
     let start = c .before .before .before .before .before .before .before in
-    let all : start .args .counts .shippers ≡ now .row = le-antisymm (c .loop-test .left) (now .inv .0) in
-    (rw all (now .inv .2), omega (arith, now .inv .1, all, start .pre .0))
+    (texts-all _ (now .inv .0) (c .loop-test .left) (now .inv .2), omega (arith, now .inv .0, now .inv .1, start .pre .0))
 
 pub put-shippers-spec : {M : Type 1} → statement M
 put-shippers-spec =

@@ -1,0 +1,25 @@
+-- Figures of an answer are those of what it equals.
+use mathlib.Core.Path.{_≡_, ap, sym, _∙_}
+use Rattle.units.specs.declared.Cents.{Cents}
+use Rattle.units.specs.declared.refusal.Refusal.{Refusal}
+use Rattle.overruns.specs.declared.day.Overruns.{Overruns}
+use Rattle.overruns.specs.declared.day.DayOverruns.{DayOverruns}
+use Rattle.overruns.specs.declared.day.DayOverruns.the-variants as DayOverruns
+use Rattle.overruns.specs.Day.{all-overruns, with-greatest}
+use Rattle.tariff.specs.declared.charges.Charge.{Charge}
+use Rattle.tariff.specs.declared.charges.Charge.the-variants as Charge
+use Rattle.tariff.specs.Charges.{cents}
+
+module _ (stated : DayOverruns) {answer : DayOverruns} (is : answer ≡ stated) where
+  pub refused-zeros : {x : Refusal} → answer ≡ DayOverruns.Refused x → with-greatest 0 0 0 0 ≡ all-overruns stated
+  refused-zeros e = ap all-overruns (sym e ∙ is)
+
+  pub over-is : {over : Overruns} → answer ≡ DayOverruns.Over over → over ≡ all-overruns stated
+  over-is e = ap all-overruns (sym e ∙ is)
+
+module _ (stated : Charge) {answer : Charge} (is : answer ≡ stated) where
+  pub refused-free : {x : Refusal} → answer ≡ Charge.Refused x → 0 ≡ cents stated .0
+  refused-free e = ap (λ charge. cents charge .0) (sym e ∙ is)
+
+  pub due-is : {due : Cents} → answer ≡ Charge.Charged due → due .0 ≡ cents stated .0
+  due-is e = ap (λ charge. cents charge .0) (sym e ∙ is)

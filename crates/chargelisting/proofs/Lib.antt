@@ -1,0 +1,3 @@
+pub mod Charging
+pub mod HeadLine
+pub mod Rated

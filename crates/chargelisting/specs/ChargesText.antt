@@ -1,0 +1,60 @@
+-- The listing of expected overrun charges. DAY number, RATE; then for each tag 5 shipper its four overruns, the greatest, its charge.
+use mathlib.Core.List.{List, [], _∷_, _++_}
+use Prim.Native.Nat.{ℕ}
+use lib.Dec.{leb}
+use Rattle.text.specs.Text.{decimal}
+use Rattle.units.specs.declared.Rate.{Rate}
+use Rattle.units.specs.declared.refusal.Check.{Check}
+use Rattle.units.specs.Bound.{most-rate}
+use Rattle.units.specs.Refusals.{_then_, keep}
+use Rattle.lines.specs.Line.{line, decimals, day-word}
+use Rattle.overruns.specs.declared.day.Overruns.{Overruns}
+use Rattle.overruns.specs.Day.{day-answer, all-overruns}
+use Rattle.tariff.specs.Charges.{cents, overrun-charge}
+use Rattle.dayformat.specs.declared.day.Day.{Day}
+use Rattle.dayformat.specs.declared.form.Tag.the-variants.{Meter}
+use Rattle.dayformat.specs.declared.layout.Counts.{Counts}
+use Rattle.dayformat.specs.Layout.{count}
+use Rattle.dayformat.specs.Table.{joined}
+use Rattle.dayruns.specs.Walk.{file-check}
+use Rattle.dayfile.specs.File.{tables, walked}
+use Rattle.dayfile.specs.Answer.{day-of}
+use Rattle.daymeters.specs.Figures.{meter-figures}
+use Rattle.listings.specs.MeterDay.{shipper-day}
+
+-- RATE
+abbrev pub rate-word : List ℕ
+rate-word = 82 ∷ 65 ∷ 84 ∷ 69 ∷ []
+
+abbrev pub head-line : ℕ → Rate → List ℕ
+head-line day rate = line (day-word ∷ decimal day ∷ rate-word ∷ decimal (rate .0) ∷ [])
+
+-- ---- of a row of the meter table: overruns in MJ, in 01's order; cents at the rate
+abbrev pub overruns-of : Counts → List ℕ → ℕ → Overruns
+overruns-of counts numbers row = all-overruns (day-answer (shipper-day counts numbers row))
+
+abbrev pub charge-figures : Rate → Counts → List ℕ → ℕ → List ℕ
+charge-figures rate counts numbers row =
+    let over = overruns-of counts numbers row in
+    meter-figures counts numbers row .shipper
+    ∷ over .hourly .0
+    ∷ over .«twelve_hourly» .0
+    ∷ over .«daily_receipt» .0
+    ∷ over .«daily_delivery» .0
+    ∷ over .greatest .0
+    ∷ cents (overrun-charge rate (over .greatest)) .0
+    ∷ []
+
+-- a line for each of the first so many rows
+abbrev pub meter-lines : Rate → Counts → List ℕ → ℕ → List ℕ
+meter-lines rate counts numbers many = joined many (λ row. line (decimals (charge-figures rate counts numbers row)))
+
+abbrev pub charges-text : Rate → Day → List ℕ → List ℕ
+charges-text rate day numbers = head-line (day .head .day) rate ++ meter-lines rate (day .counts) numbers (count (day .counts) Meter)
+
+-- ---- of a file: 3 for a rate beyond its bound, before the file is looked at
+unfoldable pub charges-check : Rate → List ℕ → Check
+charges-check rate file = keep (leb (rate .0) most-rate) 3 then file-check (walked file)
+
+abbrev pub file-text : Rate → List ℕ → List ℕ
+file-text rate file = charges-text rate (day-of file) (tables file .numbers)
