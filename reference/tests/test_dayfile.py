@@ -3,7 +3,8 @@
 from cases import put
 from dayfile import Counts, Day, Head, file_size, read_day, write_day
 from dayformat import ENTRY, FORMS, HEAD, METER, POINT, SHIPPER, write_field
-from support import RuleTest, full_day, make_day, meter
+from days import full_day, make_day, meter
+from support import RuleTest
 
 SHIPPERS = [(7, 400, 50, 300, 20, 10), (9, 200, 0, 60, 0, 0)]
 POINTS = [(0, 3, 9_000), (1, 3, 5_000)]

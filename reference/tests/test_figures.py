@@ -4,6 +4,7 @@ import unittest
 
 from cormcushion import listing
 from dayfile import write_day
+from days import make_day
 from dayshares import share_day
 from overruns import (
     BackhaulMetered,
@@ -16,7 +17,6 @@ from overruns import (
 )
 from pointshares import hour_at_point
 from rounds import one_round
-from support import make_day
 from tariff import (
     OVERRUN_RATE,
     REQUEST_RATE,

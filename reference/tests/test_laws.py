@@ -3,42 +3,16 @@
 import random
 import unittest
 
-from bounds import DAY_NUMBER, GIGAJOULES, MEGAJOULES, ROUND_CAPACITY, SYSTEM_USE
+from bounds import GIGAJOULES, MEGAJOULES, ROUND_CAPACITY, SYSTEM_USE
 from cases import some, some_rows
 from dayfile import read_day, write_day
-from dayformat import FORMS, METER
+from days import some_day, some_shippers
 from dayshares import free_flow_mdq, share_day
 from overruns import Sides, hourly_overrun, twelve_hourly_overrun
 from pointshares import hour_at_point
 from refusals import Refusal
 from rounds import GREATEST_LEVEL, one_round, shares_at
-from sharecases import below
-from support import make_day, some_names
 from usegas import general_gas
-
-
-def some_shippers(chance, greatest_count=6):
-    names = some_names(chance, greatest_count)
-    firm, auction, lower = (some_rows(chance, GIGAJOULES, len(names)) for _ in range(3))
-    schedules = (below(chance, GIGAJOULES, mdqs) for mdqs in (firm, auction))
-    return list(zip(names, firm, auction, *schedules, lower))
-
-
-def some_day(chance):
-    """A sound day of a few rows."""
-    shippers = some_shippers(chance)
-    names = [row[0] for row in shippers]
-    points = sorted({(chance.randint(0, 1), chance.randint(1, 9)) for _ in range(chance.randint(0, 4))})
-    entries = sorted((*point, name) for point in points for name in names if chance.random() < 0.5)
-    meters = [name for name in names if chance.random() < 0.5]
-    bounds = [column.bound for column in FORMS[METER].columns[1:]]
-    return make_day(
-        (some(chance, DAY_NUMBER), some(chance, GIGAJOULES), some(chance, GIGAJOULES)),
-        shippers,
-        [(*point, some(chance, MEGAJOULES)) for point in points],
-        [(*entry, some(chance, MEGAJOULES)) for entry in entries],
-        [(name, *(some(chance, bound) for bound in bounds)) for name in meters],
-    )
 
 
 class Laws(unittest.TestCase):

@@ -7,7 +7,7 @@ import unittest
 
 from cormcushion import listing
 from dayfile import write_day
-from support import full_day, make_day, meter
+from days import full_day, make_day, meter
 
 PROGRAM = pathlib.Path(__file__).resolve().parent.parent / "cormcushion.py"
 
