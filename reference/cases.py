@@ -146,6 +146,12 @@ def answer_of(routine, case):
     return figures, lent
 
 
+def words_of(routine, case):
+    """The words of its answer: what is answered, then each lent list whole."""
+    figures, lent = answer_of(routine, case)
+    return [*figures, *(word for rows in lent for word in (":", *rows))]
+
+
 def is_accepted(routine, case):
     return answer_of(routine, case)[0][0] == 0
 

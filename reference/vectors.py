@@ -1,4 +1,4 @@
-"""The cases that the proved program `vectors` is run on, and the answers that it must print.
+"""The cases that the proved programs are run on, and the answers that they must print.
 
 python3 reference/vectors.py            stores both anew
 python3 reference/vectors.py --check    fails where they are not what is stored
@@ -6,22 +6,50 @@ python3 reference/vectors.py --check    fails where they are not what is stored
 
 import pathlib
 import sys
+from typing import Callable, NamedTuple
 
+import cases
 import chargecases
+import daycases
+import entrycases
+import filecases
 import gascases
 import overruncases
 import sharecases
-from cases import answer_of, cases_of
+import textcases
 
-# A routine's number is its place from 1: further ones go last.
-ROUTINES = (
-    *sharecases.ROUTINES,
-    *gascases.ROUTINES,
-    *overruncases.ROUTINES,
-    *chargecases.ROUTINES,
+CRATES = pathlib.Path(__file__).resolve().parent.parent.joinpath("crates")
+
+
+class Program(NamedTuple):
+    """Its crate; its routines, each numbered by its place from 1, so that further ones go last;
+    a routine's cases; and the words of a case's answer."""
+
+    crate: str
+    routines: tuple
+    cases_of: Callable
+    words_of: Callable
+
+
+PROGRAMS = (
+    Program(
+        "vectors",
+        (
+            *sharecases.ROUTINES,
+            *gascases.ROUTINES,
+            *overruncases.ROUTINES,
+            *chargecases.ROUTINES,
+        ),
+        cases.cases_of,
+        cases.words_of,
+    ),
+    Program(
+        "filevectors",
+        (*daycases.ROUTINES, *entrycases.ROUTINES, *textcases.ROUTINES),
+        filecases.cases_of,
+        filecases.words_of,
+    ),
 )
-
-STORED = pathlib.Path(__file__).resolve().parent.parent.joinpath("crates", "vectors")
 
 
 def input_of(number, routine, case):
@@ -32,36 +60,33 @@ def input_of(number, routine, case):
     return b"".join(part.to_bytes(4, "big") for part in [len(words), *words])
 
 
-def line_of(routine, case):
-    figures, lent = answer_of(routine, case)
-    parts = [routine.name, *figures]
-    for figures in lent:
-        parts.extend([":", *figures])
-    return " ".join(map(str, parts)) + "\n"
+def line_of(program, routine, case):
+    return " ".join(map(str, [routine.name, *program.words_of(routine, case)])) + "\n"
 
 
-def made():
+def made(program):
     """Both files' bytes by name."""
     numbered = [
         (number, routine, case)
-        for number, routine in enumerate(ROUTINES, 1)
-        for case in cases_of(routine)
+        for number, routine in enumerate(program.routines, 1)
+        for case in program.cases_of(routine)
     ]
     return {
         "stdin": b"".join(input_of(*case) for case in numbered),
-        "stdout": "".join(line_of(*case) for _, *case in numbered).encode(),
+        "stdout": "".join(line_of(program, *case) for _, *case in numbered).encode(),
     }
 
 
 def main():
     if sys.argv[1:] not in ([], ["--check"]):
         sys.exit(__doc__)
-    for name, content in made().items():
-        stored = STORED.joinpath(name)
-        if not sys.argv[1:]:
-            stored.write_bytes(content)
-        elif stored.read_bytes() != content:
-            sys.exit(f"crates/vectors/{name} is not what reference/vectors.py makes")
+    for program in PROGRAMS:
+        for name, content in made(program).items():
+            stored = CRATES.joinpath(program.crate, name)
+            if not sys.argv[1:]:
+                stored.write_bytes(content)
+            elif stored.read_bytes() != content:
+                sys.exit(f"crates/{program.crate}/{name} is not what reference/vectors.py makes")
 
 
 if __name__ == "__main__":

@@ -3,7 +3,9 @@
 import unittest
 
 from cases import MOST_ROWS, Room, Rows, answer_of, cases_of
-from vectors import ROUTINES, input_of
+from vectors import PROGRAMS, input_of
+
+ROUTINES = PROGRAMS[0].routines
 
 # What the program `vectors` has room for.
 MOST_WORDS = 512

@@ -1,0 +1,44 @@
+// Texts: the line of a refusal, and the listings.
+use crate::answers::put_figures;
+use crate::answers::put_refusal;
+use crate::case::bytes;
+use crate::case::past;
+use crate::case::smaller;
+use crate::case::wide;
+use crate::case::word;
+use crate::lent::LENT_BYTE;
+use crate::lent::MOST_BYTES;
+use crate::lent::put_block;
+use lines::Listing;
+use units::Refusal;
+
+// How many bytes the text has, and the lent block.
+fn put_text(listing: Listing, lent: &[u8; MOST_BYTES], room: usize) {
+    match listing {
+        Listing::Refused(refusal) => put_refusal(refusal),
+        Listing::Text(size) => {
+            put_figures(&[0, 0, size as u64]);
+        }
+    }
+    put_block(lent, room);
+}
+
+pub fn answer_refusal(case: &[u8]) {
+    let mut lent = [LENT_BYTE; MOST_BYTES];
+    let room = smaller(word(case, 3) as usize, MOST_BYTES);
+    let refusal = Refusal {
+        number: smaller(word(case, 0) as usize, 255) as u8,
+        place: wide(case, 1),
+    };
+    let line = lines::refusal_line(refusal, &mut lent[0..room]);
+    io::write_all(1, b"refusal_line");
+    put_text(line, &lent, room);
+}
+
+pub fn answer_shares(case: &[u8]) {
+    let mut lent = [LENT_BYTE; MOST_BYTES];
+    let room = smaller(word(case, 0) as usize, MOST_BYTES);
+    let listing = sharelisting::list_shares(bytes(past(case, 1)), &mut lent[0..room]);
+    io::write_all(1, b"list_shares");
+    put_text(listing, &lent, room);
+}

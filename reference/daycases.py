@@ -1,0 +1,115 @@
+"""Cases of the day file's reader and writer."""
+
+from bounds import up_to
+from cases import WORD, Figure, Room, Rows, put, wide
+from dayfile import Counts, Day, Head, day_of, file_size, read_day, write_day
+from dayformat import ENTRY, METER, POINT, SHIPPER
+from days import full_day, some_day
+from filecases import NUMBERS, Bytes, FileRoutine
+from filefaults import broken_at, broken_files, cuts, fields_of, file_of, noise
+from rowfaults import METERED, ONE_EACH, SEVERAL, Edit, edited, edited_tables, too_many_tables
+
+ANY_NUMBER = up_to(2**64 - 1)
+
+
+def rooms(needed):
+    """None, too little, enough and more."""
+    return (0, needed - 1, needed, needed + 1)
+
+
+def answer_reading(room, file):
+    day = read_day(file, room)
+    return [*day.head, *day.counts], day.numbers
+
+
+def faulty_files(chance):
+    """Files by the rows they are made of, and files whose bytes are damaged."""
+    fields, metered = fields_of(ONE_EACH), file_of(METERED)
+    tables = edited_tables(chance)
+    return [
+        *map(file_of, tables),
+        *cuts(b"".join(fields)),
+        *(metered[:end] for end in (41, 42, 43, 44, len(metered) - 1)),
+        *broken_files(fields),
+        *broken_at(fields_of(METERED), 2),
+        *(noise(chance, file_of(chance.choice(tables))) for _ in range(40)),
+    ]
+
+
+def reading_cases(chance):
+    sound = [day_of(SEVERAL), day_of(METERED), day_of(ONE_EACH)]
+    days = [some_day(chance) for _ in range(12)]
+    needed = [(write_day(day), len(day.numbers)) for day in (*sound, *days)]
+    full = full_day()
+    return [
+        *([room, file] for file, numbers in needed[:2] for room in rooms(numbers)),
+        *([numbers + chance.randint(0, 1), file] for file, numbers in needed[2:]),
+        [len(full.numbers) + 1, write_day(full)],
+        *([chance.choice((0, 120, 120)), file] for file in faulty_files(chance)),
+        *([0, file_of(tables)] for tables in too_many_tables()),
+    ]
+
+
+def answer_writing(day, free_flow, compressor, *arguments):
+    *counts, room, numbers = arguments
+    file = write_day(Day(Head(day, free_flow, compressor), Counts(*counts), numbers), room)
+    return [len(file)], file
+
+
+def writing(day, room=None):
+    """The case of a day, with room for its file unless another is given."""
+    return [*day.head, *day.counts, file_size(day.counts) if room is None else room, day.numbers]
+
+
+def other_counts(day):
+    """Counts that say another number of numbers, and some that say as many."""
+    changed = [put(day.counts, index, count) for index in range(4) for count in (0, 2, WORD[-1])]
+    shifts = ((-1, 2, 0, 0), (2, 0, -3, 0), (1, 2, -3, 0), (-2, 0, 3, 0))
+    shifted = [[count + by for count, by in zip(day.counts, shift)] for shift in shifts]
+    return [day._replace(counts=Counts(*counts)) for counts in (*changed, *shifted)]
+
+
+def other_numbers(day):
+    """Too few numbers and too many."""
+    numbers = day.numbers
+    lists = ([], numbers[:-1], numbers[1:], [*numbers, 0], numbers * 2)
+    return [day._replace(numbers=list(other)) for other in lists]
+
+
+# Numbers whose lowest 32 bits would pass.
+WIDE = [
+    Edit(tag, row, column, 2**32 + SEVERAL[tag][row][column])
+    for tag, row, column in ((SHIPPER, 1, 0), (SHIPPER, 2, 5), (POINT, 0, 0), (ENTRY, 3, 3))
+] + [Edit(SHIPPER, 0, 1, ANY_NUMBER[-1])]
+
+
+def faulty_days(chance):
+    twice = {**METERED, METER: METERED[METER] * 2}
+    tables = [*edited_tables(chance), *too_many_tables(), twice]
+    wide_numbers = [edited(SEVERAL, edit) for edit in WIDE]
+    return [*map(day_of, tables), *map(day_of, wide_numbers)]
+
+
+def writing_cases(chance):
+    several, metered = day_of(SEVERAL), day_of(METERED)
+    days = [some_day(chance) for _ in range(12)]
+    lists = [*other_counts(several), *other_numbers(several)]
+    return [
+        *(writing(several, room) for room in rooms(file_size(several.counts))),
+        *(writing(metered, room) for room in rooms(file_size(metered.counts))),
+        *(writing(day, file_size(day.counts) + chance.randint(0, 1)) for day in days),
+        writing(full_day()),
+        *(writing(day, 300) for day in lists),
+        *(writing(day, chance.choice((0, 500, 500))) for day in faulty_days(chance)),
+    ]
+
+
+ROUTINES = (
+    FileRoutine("read_day", (Room(), Bytes()), answer_reading, reading_cases, NUMBERS),
+    FileRoutine(
+        "write_day",
+        (*[Figure(WORD)] * 7, Room(), Rows(ANY_NUMBER, wide)),
+        answer_writing,
+        writing_cases,
+    ),
+)

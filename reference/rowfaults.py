@@ -1,0 +1,117 @@
+"""Sound days of few rows, and faults of their rows: numbers changed, and rows too many."""
+
+from typing import NamedTuple
+
+from cases import put
+from dayformat import ENTRY, FORMS, HEAD, METER, POINT, SHIPPER
+from days import meter
+
+# A day is its rows for each tag. Several of each but meters:
+SEVERAL = {
+    HEAD: [(1, 300, 100)],
+    SHIPPER: [(7, 400, 50, 300, 20, 10), (9, 200, 0, 60, 0, 0), (258, 1, 1, 1, 1, 1)],
+    POINT: [(0, 3, 9_000), (0, 5, 6_000), (1, 3, 5_000)],
+    ENTRY: [(0, 3, 7, 4_000), (0, 3, 9, 2_000), (0, 5, 7, 10), (1, 3, 9, 1_000)],
+    METER: [],
+}
+
+# One meter:
+METERED = {
+    HEAD: [(0, 1, 0)],
+    SHIPPER: [(7, 1, 0, 0, 0, 0)],
+    POINT: [],
+    ENTRY: [],
+    METER: [meter(7, 1_000, 2_000, 3, 4, (5, 6, 7, 8), (9, 10))],
+}
+
+WHOLE = {**SEVERAL, METER: METERED[METER]}
+ONE_EACH = {tag: rows[:1] for tag, rows in SEVERAL.items()}
+
+
+class Edit(NamedTuple):
+    """A number put in place of a row's."""
+
+    tag: int
+    row: int
+    column: int
+    number: int
+
+
+def edited(tables, *edits):
+    for tag, row, column, number in edits:
+        rows = tables[tag]
+        tables = {**tables, tag: put(rows, row, tuple(put(rows[row], column, number)))}
+    return tables
+
+
+def edges(column):
+    """At each bound and one beyond it, as far as the column's bytes can spell it."""
+    least, greatest, largest = column.bound[0], column.bound[-1], 256**column.width - 1
+    numbers = {least - 1, least, greatest, greatest + 1, largest}
+    return sorted(number for number in numbers if 0 <= number <= largest)
+
+
+def edges_of(tag):
+    return [
+        Edit(tag, 0, index, number)
+        for index, column in enumerate(FORMS[tag].columns)
+        for number in edges(column)
+    ]
+
+
+BOUNDS = [edit for tag in (HEAD, SHIPPER, POINT, ENTRY) for edit in edges_of(tag)]
+
+# The ends of each list of a meter's figures, at the greatest and one beyond; shippers 0 and 8.
+METERS = [
+    *(
+        Edit(METER, 0, index, FORMS[METER].columns[index].bound[-1] + beyond)
+        for index in (1, 2, 3, 13, 14, 37, 38, 61, 62, 65, 66, 67)
+        for beyond in (0, 1)
+    ),
+    Edit(METER, 0, 0, 0),
+    Edit(METER, 0, 0, 8),
+]
+
+KEYS = [
+    Edit(SHIPPER, 1, 0, 7),
+    Edit(SHIPPER, 2, 0, 8),
+    Edit(POINT, 1, 1, 3),
+    Edit(POINT, 1, 1, 2),
+    Edit(POINT, 2, 0, 0),
+    Edit(ENTRY, 1, 2, 7),
+    Edit(ENTRY, 2, 1, 3),
+    Edit(ENTRY, 3, 0, 0),
+]
+
+# A shipper, a point and a side that are not listed.
+NAMES = [Edit(ENTRY, 1, 2, 8), Edit(ENTRY, 2, 1, 4), Edit(ENTRY, 2, 0, 1)]
+
+# Schedules without their MDQ.
+MDQS = [Edit(SHIPPER, 1, 1, 0), Edit(SHIPPER, 0, 2, 0), Edit(SHIPPER, 1, 4, 1)]
+
+EDITS = [*BOUNDS, *KEYS, *NAMES, *MDQS]
+
+
+def edited_tables(chance):
+    """Each fault alone, then two and three at once so that their order shows."""
+    several = [chance.sample([*EDITS, *METERS], count) for count in [2] * 30 + [3] * 10]
+    return [
+        *(edited(SEVERAL, edit) for edit in EDITS),
+        *(edited(METERED, edit) for edit in METERS),
+        *(edited(WHOLE, *edits) for edits in several),
+    ]
+
+
+def too_many_tables():
+    """One row more than a tag may have."""
+    shippers = [(name, 1, 1, 0, 0, 0) for name in range(1, 66)]
+    points = [(0, point, 1) for point in range(1, 34)]
+    entries = [(0, point[1], shipper[0], 0) for point in points for shipper in shippers[:20]]
+    meters = [meter(name) for name in range(1, 66)]
+    none = {**SEVERAL, SHIPPER: [], POINT: [], ENTRY: [], METER: []}
+    return [
+        {**none, SHIPPER: shippers},
+        {**none, POINT: points},
+        {**none, SHIPPER: shippers[:20], POINT: points[:26], ENTRY: entries[:513]},
+        {**none, SHIPPER: shippers[:64], METER: meters},
+    ]
