@@ -56,9 +56,8 @@ def answer_writing(day, free_flow, compressor, *arguments):
     return [len(file)], file
 
 
-def writing(day, room=None):
-    """The case of a day, with room for its file unless another is given."""
-    return [*day.head, *day.counts, file_size(day.counts) if room is None else room, day.numbers]
+def writing(day, room):
+    return [*day.head, *day.counts, room, day.numbers]
 
 
 def other_counts(day):
@@ -91,14 +90,15 @@ def faulty_days(chance):
 
 
 def writing_cases(chance):
-    several, metered = day_of(SEVERAL), day_of(METERED)
+    several, metered, full = day_of(SEVERAL), day_of(METERED), full_day()
     days = [some_day(chance) for _ in range(12)]
-    lists = [*other_counts(several), *other_numbers(several)]
+    beyond = several._replace(head=several.head._replace(free_flow=1_000_001))
+    lists = [*other_counts(several), *other_numbers(several), *other_numbers(beyond)]
     return [
         *(writing(several, room) for room in rooms(file_size(several.counts))),
         *(writing(metered, room) for room in rooms(file_size(metered.counts))),
         *(writing(day, file_size(day.counts) + chance.randint(0, 1)) for day in days),
-        writing(full_day()),
+        writing(full, file_size(full.counts)),
         *(writing(day, 300) for day in lists),
         *(writing(day, chance.choice((0, 500, 500))) for day in faulty_days(chance)),
     ]

@@ -91,14 +91,25 @@ MDQS = [Edit(SHIPPER, 1, 1, 0), Edit(SHIPPER, 0, 2, 0), Edit(SHIPPER, 1, 4, 1)]
 
 EDITS = [*BOUNDS, *KEYS, *NAMES, *MDQS]
 
+# Two faults of a row, and faults of two rows, of which the later has the number that comes first.
+TOGETHER = [
+    (Edit(SHIPPER, 1, 0, 7), Edit(SHIPPER, 1, 1, 0)),
+    (Edit(SHIPPER, 1, 0, 7), Edit(SHIPPER, 1, 5, 1_000_001)),
+    (Edit(SHIPPER, 1, 1, 0), Edit(SHIPPER, 1, 5, 1_000_001)),
+    (Edit(SHIPPER, 0, 2, 0), Edit(METER, 0, 0, 8)),
+    (Edit(SHIPPER, 0, 2, 0), Edit(METER, 0, 3, 100_000_001)),
+    (Edit(POINT, 1, 1, 3), Edit(METER, 0, 3, 100_000_001)),
+    (Edit(HEAD, 0, 1, 1_000_001), Edit(SHIPPER, 1, 1, 1_000_001)),
+]
+
 
 def edited_tables(chance):
-    """Each fault alone, then two and three at once so that their order shows."""
+    """Each fault alone, then some at once so that their order shows."""
     several = [chance.sample([*EDITS, *METERS], count) for count in [2] * 30 + [3] * 10]
     return [
         *(edited(SEVERAL, edit) for edit in EDITS),
         *(edited(METERED, edit) for edit in METERS),
-        *(edited(WHOLE, *edits) for edits in several),
+        *(edited(WHOLE, *edits) for edits in (*TOGETHER, *several)),
     ]
 
 
