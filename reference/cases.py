@@ -147,9 +147,9 @@ def answer_of(routine, case):
 
 
 def words_of(routine, case):
-    """The words of its answer: what is answered, then each lent list whole."""
+    """What is answered, then each lent list whole."""
     figures, lent = answer_of(routine, case)
-    return [*figures, *(word for rows in lent for word in (":", *rows))]
+    return [*figures, *(part for rows in lent for part in (":", *rows))]
 
 
 def is_accepted(routine, case):

@@ -2,7 +2,7 @@
 bytes."""
 
 from random import Random
-from typing import Callable, NamedTuple
+from typing import Callable, NamedTuple, Optional
 
 from cases import LENT, SEED, Room, word
 from refusals import Refusal
@@ -52,7 +52,7 @@ class FileRoutine(NamedTuple):
     fields: tuple
     answer: Callable
     cases: Callable
-    block: Block | None = BYTES
+    block: Optional[Block] = BYTES
 
 
 def cases_of(routine):

@@ -5,7 +5,7 @@ from cases import Figure, Room, wide
 from daycases import faulty_files, rooms
 from dayfile import day_of, tables_of, write_day
 from dayformat import ENTRY, METER, POINT
-from days import full_day, make_day, some_day, some_names
+from days import full_day, make_day, meter, some_day, some_names
 from filecases import Bytes, FileRoutine
 from filefaults import file_of
 from listings import charges_listing, lines, points_listing, refusal_row, shares_listing
@@ -14,7 +14,7 @@ from rowfaults import METERED, SEVERAL
 from sharecases import some_day as some_table
 from tariff import OVERRUN_RATE
 
-# No text here is as long.
+# Room enough for the listing of a day of few rows.
 AMPLE = 4_000
 
 
@@ -76,20 +76,46 @@ def full_file(without):
     return write_day(day_of({**tables_of(full_day()), **{tag: [] for tag in without}}))
 
 
+# 01's figure: 288,000 MJ twelve-hourly.
+OVER = write_day(
+    make_day(
+        shippers=[(7, 1, 0, 0, 0, 0)],
+        meters=[meter(7, 1_000, 1_000, delivered=48_000, schedules=(0, 1_152, 0, 0))],
+    )
+)
+
+
 def answer_charges(rate, room, file):
     require_figures(RATE, rate)
     return laid(charges_listing(file, rate), room)
 
 
 def charges_cases(chance):
-    files = [file_of(METERED), file_of(SEVERAL), *(write_day(some_day(chance)) for _ in range(12))]
+    some = [write_day(some_day(chance)) for _ in range(12)]
+    files = [OVER, file_of(SEVERAL), *some, full_file(without=(POINT, ENTRY))]
     cases = listing_cases(lambda file: charges_listing(file, OVERRUN_RATE), files, chance)
     rates = (0, 1, RATE[-1], RATE[-1] + 1, 2**32 - 1)
     return [
         *([OVERRUN_RATE, *case] for case in cases),
         *([rate, AMPLE, file] for rate in rates for file in (*files[:2], b"")),
-        [OVERRUN_RATE, 8_000, full_file(without=(POINT, ENTRY))],
     ]
+
+
+# Points of two shippers short of their entitlements and not, of none, of one, and of two without
+# MDQs where H equals TRE and where it is one above (6).
+HOURS = write_day(
+    make_day(
+        shippers=[(name, mdq, 0, 0, 0, 0) for name, mdq in ((7, 300), (9, 100), (11, 0), (12, 0))],
+        points=[(0, 1, 5_000), (0, 2, 9_000), (0, 3, 8), (1, 1, 77), (1, 2, 6_000), (1, 3, 6_001)],
+        entries=[
+            *((0, 1, 7, 4_000), (0, 1, 9, 2_000)),
+            *((0, 2, 7, 4_000), (0, 2, 9, 2_000)),
+            (1, 1, 11, 5),
+            *((1, 2, 11, 4_000), (1, 2, 12, 2_000)),
+            *((1, 3, 11, 4_000), (1, 3, 12, 2_000)),
+        ],
+    )
+)
 
 
 def answer_points(room, file):
@@ -97,8 +123,9 @@ def answer_points(room, file):
 
 
 def points_cases(chance):
-    files = [file_of(SEVERAL), file_of(METERED), *(write_day(some_day(chance)) for _ in range(20))]
-    return listing_cases(points_listing, [*files, full_file(without=(METER,))], chance)
+    some = [write_day(some_day(chance)) for _ in range(20)]
+    files = [HOURS, file_of(METERED), *some, full_file(without=(METER,))]
+    return listing_cases(points_listing, files, chance)
 
 
 ROUTINES = (
