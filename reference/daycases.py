@@ -1,15 +1,12 @@
 """Cases of the day file's reader and writer."""
 
-from bounds import up_to
-from cases import WORD, Figure, Room, Rows, put, wide
+from cases import WORD, Figure, Room, put
 from dayfile import Counts, Day, Head, day_of, file_size, read_day, write_day
 from dayformat import ENTRY, METER, POINT, SHIPPER
 from days import full_day, some_day
-from filecases import NUMBERS, Bytes, FileRoutine
+from filecases import NUMBERS, Bytes, FileRoutine, Halves
 from filefaults import broken_at, broken_files, cuts, fields_of, file_of, noise
 from rowfaults import METERED, ONE_EACH, SEVERAL, Edit, edited, edited_tables, too_many_tables
-
-ANY_NUMBER = up_to(2**64 - 1)
 
 
 def rooms(needed):
@@ -79,7 +76,7 @@ def other_numbers(day):
 WIDE = [
     Edit(tag, row, column, 2**32 + SEVERAL[tag][row][column])
     for tag, row, column in ((SHIPPER, 1, 0), (SHIPPER, 2, 5), (POINT, 0, 0), (ENTRY, 3, 3))
-] + [Edit(SHIPPER, 0, 1, ANY_NUMBER[-1])]
+] + [Edit(SHIPPER, 0, 1, 2**64 - 1)]
 
 
 def faulty_days(chance):
@@ -108,7 +105,7 @@ ROUTINES = (
     FileRoutine("read_day", (Room(), Bytes()), answer_reading, reading_cases, NUMBERS),
     FileRoutine(
         "write_day",
-        (*[Figure(WORD)] * 7, Room(), Rows(ANY_NUMBER, wide)),
+        (*[Figure(WORD)] * 7, Room(), Halves()),
         answer_writing,
         writing_cases,
     ),

@@ -4,7 +4,7 @@ bytes."""
 from random import Random
 from typing import Callable, NamedTuple, Optional
 
-from cases import LENT, SEED, Room, word
+from cases import LENT, SEED, WORD, Room, word
 from refusals import Refusal
 
 
@@ -15,6 +15,17 @@ class Bytes(NamedTuple):
         starts = range(0, len(given), 4)
         parts = [int.from_bytes(given[at : at + 4].ljust(4, b"\0"), "big") for at in starts]
         return [*word(len(given)), *parts]
+
+
+class Halves(NamedTuple):
+    """Numbers of 64 bits: the lower halves, then the higher ones up to the last above zero, each
+    list as a byte string."""
+
+    def words(self, numbers):
+        large = [place for place, number in enumerate(numbers, 1) if number > WORD[-1]]
+        lower = [number & WORD[-1] for number in numbers]
+        higher = [number >> 32 for number in numbers[: max(large, default=0)]]
+        return [4 * len(lower), *lower, 4 * len(higher), *higher]
 
 
 class Block(NamedTuple):

@@ -2,7 +2,7 @@
 
 import unittest
 
-from filecases import BYTES, NUMBERS, Bytes, cases_of, room_of, words_of
+from filecases import BYTES, NUMBERS, Bytes, Halves, cases_of, room_of, words_of
 from vectors import PROGRAMS, input_of
 
 ROUTINES = PROGRAMS[1].routines
@@ -65,6 +65,10 @@ class Spelling(unittest.TestCase):
         self.assertEqual([0], Bytes().words(b""))
         self.assertEqual([4, 0x01020304], Bytes().words(b"\1\2\3\4"))
         self.assertEqual([5, 0x01020304, 0x05000000], Bytes().words(b"\1\2\3\4\5"))
+
+    def test_halves(self):
+        self.assertEqual([8, 7, 9, 0], Halves().words([7, 9]))
+        self.assertEqual([12, 7, 0, 9, 8, 0, 0x100], Halves().words([7, 0x100 << 32, 9]))
 
     def test_blocks(self):
         self.assertEqual([":", "kept", 3], NUMBERS.words([], 3))

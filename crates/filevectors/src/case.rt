@@ -24,9 +24,8 @@ pub fn past(case: &[u8], count: usize) -> &[u8] {
 }
 
 // The number of 64 bits that two words make.
-pub fn wide(case: &[u8], place: usize) -> usize {
-    let pair = past(case, place);
-    (word(pair, 0) as usize) * 4_294_967_296 + word(pair, 1) as usize
+pub fn wide(higher: u32, lower: u32) -> usize {
+    higher as usize * 4_294_967_296 + lower as usize
 }
 
 // The bytes that stand first: how many there are, then the bytes, filled up to a whole word.

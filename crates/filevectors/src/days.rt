@@ -3,6 +3,7 @@ use crate::answers::put_figures;
 use crate::answers::put_refusal;
 use crate::case::bytes;
 use crate::case::past;
+use crate::case::past_bytes;
 use crate::case::smaller;
 use crate::case::wide;
 use crate::case::word;
@@ -52,9 +53,10 @@ fn put_day(day: Day) {
 pub fn answer_writing(case: &[u8]) {
     let mut lent = [LENT_BYTE; MOST_BYTES];
     let room = smaller(word(case, 7) as usize, MOST_BYTES);
-    let list = past(case, 8);
-    let numbers = numbers_of(list);
-    let count = smaller(word(list, 0) as usize / 2, MOST_NUMBERS);
+    let halves = past(case, 8);
+    let lower = bytes(halves);
+    let numbers = numbers_of(bytes(past_bytes(halves)), lower);
+    let count = smaller(lower.len() / 4, MOST_NUMBERS);
     let written = daywriter::write_day(day_of(case), &numbers[0..count], &mut lent[0..room]);
     io::write_all(1, b"write_day");
     match written {
@@ -83,11 +85,11 @@ fn day_of(case: &[u8]) -> Day {
     }
 }
 
-// The numbers of 64 bits of a list: how many words it has, then the words, two to a number.
-fn numbers_of(list: &[u8]) -> [usize; MOST_NUMBERS] {
+// The numbers of 64 bits of which two lists of words have the halves.
+fn numbers_of(higher: &[u8], lower: &[u8]) -> [usize; MOST_NUMBERS] {
     let mut numbers = [0usize; MOST_NUMBERS];
     for place in 0..MOST_NUMBERS {
-        numbers[place] = wide(list, 1 + 2 * place);
+        numbers[place] = wide(word(higher, place), word(lower, place));
     }
     numbers
 }

@@ -28,7 +28,7 @@ pub fn answer_refusal(case: &[u8]) {
     let room = smaller(word(case, 3) as usize, MOST_BYTES);
     let refusal = Refusal {
         number: smaller(word(case, 0) as usize, 255) as u8,
-        place: wide(case, 1),
+        place: wide(word(case, 1), word(case, 2)),
     };
     let line = lines::refusal_line(refusal, &mut lent[0..room]);
     io::write_all(1, b"refusal_line");

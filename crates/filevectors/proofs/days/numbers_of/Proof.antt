@@ -5,19 +5,19 @@ use Rattle.filevectors.proofs.days.numbers_of.Statement.{statement}
 use Rattle.filevectors.proofs.days.numbers_of.Tie as tie
 
 abbrev Inv-loop : tie.InvT-loop
-Inv-loop list numbers₀ place₀ numbers place = place ≤ 6881
+Inv-loop higher lower numbers₀ place₀ numbers place = place ≤ 6881
 
 abbrev μ-loop : tie.MeasureT-loop
-μ-loop list numbers₀ place₀ numbers place = 6881 - place
+μ-loop higher lower numbers₀ place₀ numbers place = 6881 - place
 
 loop-holds : tie.Need-loop-holds Inv-loop μ-loop
 loop-holds c = search needs
 
-mul-wide : tie.Need-mul-wide Inv-loop μ-loop
-mul-wide c = search needs
+word-requires : tie.Need-word-requires Inv-loop μ-loop
+word-requires c κs = search needs
 
-add-wide : tie.Need-add-wide Inv-loop μ-loop
-add-wide c = search needs
+word-requires-2 : tie.Need-word-requires-2 Inv-loop μ-loop
+word-requires-2 c κs = search needs
 
 wide-requires : tie.Need-wide-requires Inv-loop μ-loop
 wide-requires c κs = search needs
@@ -47,8 +47,8 @@ numbers-of-spec =
     Inv-loop
     μ-loop
     loop-holds
-    mul-wide
-    add-wide
+    word-requires
+    word-requires-2
     wide-requires
     mul-numbers
     array-write-numbers
