@@ -21,6 +21,9 @@ from dayformat import ENTRY, HEAD, METER, POINT, SHIPPER
 
 DAYS = ("small", "cool")
 
+# What the gate runs a program on, and what it must print.
+RUN_ON = {"charges": "cool"}
+
 SIDES = ("receipt", "delivery")
 
 # An hour's megajoules in each unit of Schedule 1: a 24th of a limit for the day.
@@ -95,14 +98,17 @@ def tables_from(text):
 
 
 def made():
-    """Every file's bytes by name."""
+    """Every file's bytes by its place in the repository."""
     files = {}
     for name in DAYS:
         text = HERE.joinpath(f"{name}.txt").read_text(encoding="utf-8")
         file = write_day(day_of(tables_from(text)))
-        files[f"{name}.day"] = file
+        files[f"examples/{name}.day"] = file
         for program in LISTINGS:
-            files[f"{name}.{program}"] = listing(program, [], file).encode()
+            files[f"examples/{name}.{program}"] = listing(program, [], file).encode()
+    for program, name in RUN_ON.items():
+        files[f"crates/{program}/stdin"] = files[f"examples/{name}.day"]
+        files[f"crates/{program}/stdout"] = files[f"examples/{name}.{program}"]
     return files
 
 
@@ -110,11 +116,11 @@ def main():
     if sys.argv[1:] not in ([], ["--check"]):
         sys.exit(__doc__)
     for name, content in made().items():
-        stored = HERE.joinpath(name)
+        stored = HERE.parent.joinpath(name)
         if not sys.argv[1:]:
             stored.write_bytes(content)
         elif not stored.exists() or stored.read_bytes() != content:
-            sys.exit(f"examples/{name} is not what examples/make.py makes")
+            sys.exit(f"{name} is not what examples/make.py makes")
 
 
 if __name__ == "__main__":
