@@ -1,0 +1,6 @@
+pub mod Segments
+pub mod Sides
+pub mod SideRuns
+pub mod Parts
+pub mod FileEntries
+pub mod Determined

@@ -1,0 +1,41 @@
+-- 01, "An hour at a point": a day's tag 4 fields as a receipt list and a delivery list.
+use mathlib.Core.Path.{_≡_}
+use mathlib.Core.List.{List}
+use Prim.Native.Nat.{ℕ, _+_, _*_, _/_}
+use lib.Dec.{eqb}
+use lib.ListN.{length, take, drop}
+use Rattle.columns.specs.Column.{col}
+use Rattle.columns.specs.First.{first}
+use Rattle.units.specs.declared.refusal.Check.the-variants.{Accepted}
+use Rattle.dayformat.specs.declared.form.Tag.the-variants.{Head, Shipper, Point, Entry}
+use Rattle.dayformat.specs.declared.layout.Counts.{Counts}
+use Rattle.dayformat.specs.Layout.{run-size}
+use Rattle.pointentries.specs.Entries.{asked, entries-check, part-start, part-long}
+use Rattle.entrylists.specs.PointRows.{point-fields}
+
+-- a field has twelve bytes, its side behind the tag and the length
+abbrev pub first-delivery : List ℕ → ℕ
+first-delivery list = first (length list / 12) (λ row. eqb (col list (row * 12 + 3)) 1) * 12
+
+-- the fields before the first of side 1, and those from it on
+abbrev pub receipt-list : List ℕ → List ℕ
+receipt-list list = take (first-delivery list) list
+
+abbrev pub delivery-list : List ℕ → List ℕ
+delivery-list list = drop (first-delivery list) list
+
+-- a file's tag 4 bytes, behind the fields of the tags before
+abbrev pub entries-start : Counts → ℕ
+entries-start counts = run-size counts Head + run-size counts Shipper + run-size counts Point
+
+abbrev pub entry-bytes : Counts → List ℕ → List ℕ
+entry-bytes counts file = take (run-size counts Entry) (drop (entries-start counts) file)
+
+-- the list asked for is accepted, and its part for a point is the fields of the day's entries of that point
+pub record Parted (counts : Counts) (numbers : ℕ → ℕ) (list : List ℕ) (side point : ℕ) : Type 0 where
+  pub accepted : entries-check (receipt-list list) (delivery-list list) side point ≡ Accepted
+  pub part :
+      take (part-long (receipt-list list) (delivery-list list) side point)
+      (drop (part-start (receipt-list list) (delivery-list list) side point)
+      (asked side (receipt-list list) (delivery-list list)))
+      ≡ point-fields counts numbers side point
