@@ -1,7 +1,7 @@
 -- The tag 4 bytes of an accepted file are the fields of the day's entries, so a point's part is its entries' fields there.
 use mathlib.Core.Path.{_≡_, refl, ap, sym, _∙_}
 use mathlib.Core.List.{List, _++_, append-assoc}
-use Prim.Native.Nat.{ℕ, _≤_, _<_}
+use Prim.Native.Nat.{ℕ, _+_, _≤_, _<_}
 use native.Mathlib.Omega.{arith}
 use lib.ListN.{length, take, drop, length-append}
 use lib.Seq.{take-at, drop-at}
@@ -16,7 +16,7 @@ use Rattle.dayfile.specs.File.{tables, walked}
 use Rattle.dayfile.specs.Answer.{day-of}
 use Rattle.daywriter.specs.Written.{head-row, fields, file-of}
 use Rattle.daywriter.proofs.Accepting.{accepting}
-use Rattle.daywriter.proofs.Sizes.{length-field, length-fields}
+use Rattle.daywriter.proofs.Sizes.{length-field, length-fields, length-file-of}
 use Rattle.roundtrip.proofs.FileAgain.{file-again, day-accepted}
 use Rattle.entrylists.specs.SideLists.{entries-start, entry-bytes, Parted}
 use Rattle.entrylists.proofs.Parts.{parted}
@@ -51,6 +51,9 @@ module _ (file : List ℕ) (are : AreBytes file) (none : walked file .fault ≡ 
   pub entries-are : entry-bytes (walked file .counts) file ≡ fields (walked file .counts) (col (tables file .numbers)) Entry
   entries-are =
       ap (entry-bytes (walked file .counts)) (sym (file-again file are none)) ∙ written-entries (day-of file) (col (tables file .numbers))
+
+  pub entries-inside : entries-start (walked file .counts) + run-size (walked file .counts) Entry ≤ length file
+  entries-inside = omega (arith, ap length (sym (file-again file are none)), length-file-of (day-of file) (col (tables file .numbers)))
 
   pub file-parted : (side point : ℕ) → side ≤ 1 → 0 < point
       → Parted (walked file .counts) (col (tables file .numbers)) (entry-bytes (walked file .counts) file) side point

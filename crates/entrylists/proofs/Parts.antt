@@ -100,7 +100,8 @@ module _ (day : Day) (numbers : List ℕ) (S : Sound day numbers) where
             first-le (λ more. not (asks (from + (start + more)))) (many - start),
           ))
 
-      part-of-point : take (long-in list side point) (drop (start-in list side point) list) ≡ point-fields (day .counts) (col numbers) side point
+      part-of-point : take (long-in list side point) (drop (start-in list side point) list)
+          ≡ point-fields (day .counts) (col numbers) side point
       part-of-point =
           part-is
           ∙ segment-alike asks from many all inside (λ row l. asks-not row (other row l)) (λ row h l. asks-not row (past row h l)) field-at

@@ -25,7 +25,7 @@ use Rattle.dayrows.specs.declared.Test.the-variants as Test
 use Rattle.dayrows.specs.Test.{within, bounded, difference, rises, starved, passes, fault}
 use Rattle.dayrows.proofs.Faults.{none-fault}
 use Rattle.dayrows.proofs.Within.{both}
-use Rattle.dayruns.specs.Run.{Fields, place-of, rows-of}
+use Rattle.dayruns.specs.Run.{Fields, place-of, row-of, rows-of}
 use Rattle.dayruns.specs.Walk.{walk-after, ended}
 use Rattle.daywriter.specs.Written.{row-from}
 use Rattle.daywriter.proofs.Accepting.{Sound}
@@ -63,8 +63,9 @@ module _ (f g : ℕ → ℕ) (key before here other-before other-here : ℕ)
       let l = ltb-true place key (both (ltb place key) _ e .0) in
       rw (difference-moved, first place l, second place l) e
 
-module _ (day : Day) (numbers : List ℕ) (S : Sound day numbers) (from many side : ℕ) (inside : from + many ≤ count (day .counts) Entry)
-    (sided : (i : ℕ) → i < many → number-at (day .counts) (col numbers) Entry (from + i) 0 ≡ side) where
+-- ---- so many of a day's entries from a row on, as a list that is read as one of a side
+module _ (day : Day) (numbers : List ℕ) (S : Sound day numbers) (from many side : ℕ)
+    (inside : from + many ≤ count (day .counts) Entry) where
   abbrev number : ℕ → ℕ → ℕ
   number i place = number-at (day .counts) (col numbers) Entry (from + i) place
 
@@ -92,52 +93,11 @@ module _ (day : Day) (numbers : List ℕ) (S : Sound day numbers) (from many sid
         above = tt;
       }
 
-  -- a row's numbers among those of so many rows
-  stands : (n i place : ℕ) → i < n → place < 4 → col (joined n row) (row-start no-rows Entry i + place) ≡ number i place
-  stands n i place l k =
-      ap (λ at. col (joined n row) (at + place)) (zero-add (i * 4))
-      ∙ col-joined row 4 (λ i. length-listed _ _) n i place l k
-      ∙ col-listed 4 (λ place. number i place) place k
+  -- an entry's numbers are read back
+  pub number-again : (i place : ℕ) → i < many → place < 4 → col (row-of F i) place ≡ number i place
+  number-again i place l k = ap (λ row. col row place) (row-again F written i l) ∙ col-listed 4 (λ place. number i place) place k
 
-  abbrev read : ℕ → ℕ → ℕ
-  read i = col (joined (suc i) row)
-
-  risen : (i : ℕ) → i < many → rises no-rows (read i) Entry i ≡ true
-  unfolding rises passes
-  risen zero l = refl
-  risen (suc i) l =
-      let at : from + suc i ≡ suc (from + i) = add-suc from i in
-      rises-moved (read (suc i)) (col numbers) 3 (row-start no-rows Entry i) (row-start no-rows Entry (suc i))
-      (row-start (day .counts) Entry (from + i)) (row-start (day .counts) Entry (suc (from + i)))
-      (λ place k. stands (suc (suc i)) i place (omega arith) (omega (arith, k)))
-      (λ place k. stands (suc (suc i)) (suc i) place (omega arith) (omega (arith, k))
-      ∙ ap (λ row. number-at (day .counts) (col numbers) Entry row place) at)
-      (both _ _ (S .passes Entry tt Test.Key (suc (from + i)) (omega (arith, l, inside))) .0)
-
-  passed : (i : ℕ) → i < many → (test : Test) → passes test (Side side) no-rows (read i) Entry i ≡ true
-  unfolding passes starved
-  passed i l Test.Bounds =
-      rw (
-        lt-ltb i 512 (omega (arith, l, inside, S .few Entry)),
-        bounded-all (read i) (row-start no-rows Entry i)
-            (λ place k.
-            ap (within (column-in (body Entry) place)) (stands (suc i) i place (lt-suc-self i) k)
-            ∙ entry-bounded day numbers S (from + i) (omega (arith, l, inside)) place k),
-      )
-      (eq-eqb _ side (ap (read i) (omega arith) ∙ stands (suc i) i 0 (lt-suc-self i) (omega arith) ∙ sided i l))
-  passed i l Test.Key = rw (risen i l)
-  passed i l Test.Mdq = refl
-
-  read-sound : (i : ℕ) → i < many → fault (Side side) no-rows (col (rows-of F (suc i))) Entry i ≡ 0
-  read-sound i l = rw (rows-again F written (suc i) l) (none-fault (Side side) no-rows (read i) Entry i (passed i l))
-
-  run-is : entry-run list side ≡ record { rows = many; place = place-of F many; fault = 0 }
-  run-is = run-again F written (λ many. col (rows-of F many)) read-sound
-
-  pub rows-are : entry-rows list side ≡ many
-  rows-are = ap (λ run. run .rows) run-is
-
-  list-long : length list ≤ place-of F many
+  pub list-long : length list ≡ place-of F many
   list-long =
       omega (
         arith,
@@ -145,19 +105,65 @@ module _ (day : Day) (numbers : List ℕ) (S : Sound day numbers) (from many sid
             (λ i. length-row-field (col numbers) Entry (row-start (day .counts) Entry (from + i))) many,
       )
 
-  faultless : entry-walk list side .fault ≡ 0
-  unfolding ended
-  faultless =
-      ap (λ run. ended list (walk-after unread Entry run) .fault) run-is ∙ rw (le-leb (length list) (place-of F many) list-long)
+  -- ---- entries of that side
+  module _ (sided : (i : ℕ) → i < many → number i 0 ≡ side) where
+    -- a row's numbers among those of so many rows
+    stands : (n i place : ℕ) → i < n → place < 4 → col (joined n row) (row-start no-rows Entry i + place) ≡ number i place
+    stands n i place l k =
+        ap (λ at. col (joined n row) (at + place)) (zero-add (i * 4))
+        ∙ col-joined row 4 (λ i. length-listed _ _) n i place l k
+        ∙ col-listed 4 (λ place. number i place) place k
 
-  pub list-accepted : (point : ℕ) → side ≤ 1 → 0 < point → list-check list side point ≡ Accepted
-  unfolding list-check
-  list-accepted point h l =
-      accepts-both
-      (accepts-both (accepts-both refl (accepts-kept 3 (le-leb side 1 h))) (accepts-kept 3 (lt-ltb 0 point l)))
-      (rw (eq-eqb (entry-walk list side .fault) 0 faultless))
+    abbrev read : ℕ → ℕ → ℕ
+    read i = col (joined (suc i) row)
 
-  pub point-is : (point i : ℕ) → i < many → is-of list side point i ≡ eqb (number i 1) point
-  point-is point i l =
-      ap (λ row. eqb (col row 1) point) (row-again F written i l)
-      ∙ ap (λ found. eqb found point) (col-listed 4 (λ place. number i place) 1 (omega arith))
+    risen : (i : ℕ) → i < many → rises no-rows (read i) Entry i ≡ true
+    unfolding rises passes
+    risen zero l = refl
+    risen (suc i) l =
+        let at : from + suc i ≡ suc (from + i) = add-suc from i in
+        rises-moved (read (suc i)) (col numbers) 3 (row-start no-rows Entry i) (row-start no-rows Entry (suc i))
+        (row-start (day .counts) Entry (from + i)) (row-start (day .counts) Entry (suc (from + i)))
+        (λ place k. stands (suc (suc i)) i place (omega arith) (omega (arith, k)))
+        (λ place k. stands (suc (suc i)) (suc i) place (omega arith) (omega (arith, k))
+        ∙ ap (λ row. number-at (day .counts) (col numbers) Entry row place) at)
+        (both _ _ (S .passes Entry tt Test.Key (suc (from + i)) (omega (arith, l, inside))) .0)
+
+    passed : (i : ℕ) → i < many → (test : Test) → passes test (Side side) no-rows (read i) Entry i ≡ true
+    unfolding passes starved
+    passed i l Test.Bounds =
+        rw (
+          lt-ltb i 512 (omega (arith, l, inside, S .few Entry)),
+          bounded-all (read i) (row-start no-rows Entry i)
+              (λ place k.
+              ap (within (column-in (body Entry) place)) (stands (suc i) i place (lt-suc-self i) k)
+              ∙ entry-bounded day numbers S (from + i) (omega (arith, l, inside)) place k),
+        )
+        (eq-eqb _ side (ap (read i) (omega arith) ∙ stands (suc i) i 0 (lt-suc-self i) (omega arith) ∙ sided i l))
+    passed i l Test.Key = rw (risen i l)
+    passed i l Test.Mdq = refl
+
+    read-sound : (i : ℕ) → i < many → fault (Side side) no-rows (col (rows-of F (suc i))) Entry i ≡ 0
+    read-sound i l = rw (rows-again F written (suc i) l) (none-fault (Side side) no-rows (read i) Entry i (passed i l))
+
+    run-is : entry-run list side ≡ record { rows = many; place = place-of F many; fault = 0 }
+    run-is = run-again F written (λ many. col (rows-of F many)) read-sound
+
+    pub rows-are : entry-rows list side ≡ many
+    rows-are = ap (λ run. run .rows) run-is
+
+    faultless : entry-walk list side .fault ≡ 0
+    unfolding ended
+    faultless =
+        ap (λ run. ended list (walk-after unread Entry run) .fault) run-is
+        ∙ rw (le-leb (length list) (place-of F many) (le-of-eq list-long))
+
+    pub list-accepted : (point : ℕ) → side ≤ 1 → 0 < point → list-check list side point ≡ Accepted
+    unfolding list-check
+    list-accepted point h l =
+        accepts-both
+        (accepts-both (accepts-both refl (accepts-kept 3 (le-leb side 1 h))) (accepts-kept 3 (lt-ltb 0 point l)))
+        (rw (eq-eqb (entry-walk list side .fault) 0 faultless))
+
+    pub point-is : (point i : ℕ) → i < many → is-of list side point i ≡ eqb (number i 1) point
+    point-is point i l = ap (λ found. eqb found point) (number-again i 1 l (omega arith))
