@@ -1,0 +1,72 @@
+-- A file's tag 4 bytes, cut out and parted where side 1 begins, are the lists that a day's points are read from.
+use mathlib.Core.Path.{_≡_, ap, ap₂, sym, _∙_}
+use mathlib.Core.List.{List}
+use Prim.Native.Nat.{ℕ, _+_, _-_, _*_, _/_, _≤_}
+use native.Mathlib.Omega.{arith}
+use lib.Dec.{eqb}
+use lib.ListN.{length, take, drop, length-drop}
+use lib.Seq.{take-all, length-take-le}
+use Rattle.columns.specs.Column.{col}
+use Rattle.columns.proofs.Firsts.{first-le}
+use Rattle.bigendian.specs.Number.{AreBytes}
+use Rattle.dayformat.specs.declared.day.Day.{Day}
+use Rattle.dayformat.specs.declared.form.Tag.the-variants.{Entry}
+use Rattle.dayformat.specs.Layout.{numbers-in, run-size}
+use Rattle.dayfile.specs.declared.reader.Reading.the-variants as Reading
+use Rattle.dayfile.specs.File.{walked}
+use Rattle.dayfile.specs.Answer as reader
+use Rattle.daywriter.specs.Written.{fields}
+use Rattle.roundtrip.specs.RoundTrip.{Reads}
+use Rattle.roundtrip.proofs.FileAgain.{day-accepted}
+use Rattle.roundtrip.proofs.OnRoutines.{reads-day, taken-numbers}
+use Rattle.entrylists.specs.SideLists.{entries-start, entry-bytes, first-delivery, receipt-list, delivery-list}
+use Rattle.entrylists.proofs.FileEntries.{entries-are, entries-inside}
+use Rattle.pointlisting.specs.Parts.{Readable}
+
+-- what the reader has answered is read out of the file
+pub reads-part : (file lent numbers : List ℕ) (day : Day) → AreBytes file → reader.Answered file lent numbers (Reading.Read day)
+    → Reads file day (take (numbers-in (day .counts)) numbers)
+reads-part file lent numbers day are R = rw (taken-numbers file lent numbers day R are) (reads-day file lent numbers day R)
+
+module _ (file : List ℕ) (are : AreBytes file) (day : Day) (numbers : List ℕ) (R : Reads file day numbers) {start end : ℕ}
+    (start-is : start ≡ entries-start (day .counts)) (end-is : end ≡ entries-start (day .counts) + run-size (day .counts) Entry) where
+  counts-are : walked file .counts ≡ day .counts
+  counts-are = ap (λ day. day .counts) (R .day-is)
+
+  pub start-before : start ≤ end
+  start-before = omega (arith, start-is, end-is)
+
+  pub end-inside : end ≤ length file
+  end-inside =
+      let inside = entries-inside file are (R .accepted) in
+      let here : entries-start (day .counts) + run-size (day .counts) Entry ≤ length file = rw counts-are at inside in
+      omega (arith, end-is, here)
+
+  abbrev entries : List ℕ
+  entries = take (end - start) (drop start file)
+
+  entries-is : entries ≡ fields (day .counts) (col numbers) Entry
+  entries-is =
+      let long : end - start ≡ run-size (day .counts) Entry = omega (arith, start-is, end-is) in
+      ap₂ (λ long start. take long (drop start file)) long start-is
+      ∙ ap (λ counts. entry-bytes counts file) (sym counts-are)
+      ∙ entries-are file are (R .accepted)
+      ∙ ap₂ (λ counts numbers. fields counts (col numbers) Entry) counts-are (R .numbers-are)
+
+  module _ {split : ℕ} (split-is : split ≡ first-delivery entries) where
+    pub split-inside : split ≤ length entries
+    split-inside = omega (arith, split-is, first-le (λ row. eqb (col entries (row * 12 + 3)) 1) (length entries / 12))
+
+    pub split-long : split ≡ length (take split entries)
+    split-long = sym (length-take-le split entries split-inside)
+
+    pub readable : Readable day numbers (take split entries) (take (length entries - split) (drop split entries))
+    readable =
+        record {
+          sound = rw (← R .day-is, ← R .numbers-are) (day-accepted file are (R .accepted));
+          receipt-is = ap (λ split. take split entries) split-is ∙ ap receipt-list entries-is;
+          delivery-is =
+              take-all (length entries - split) (drop split entries) (omega (arith, length-drop split entries))
+              ∙ ap (λ split. drop split entries) split-is
+              ∙ ap delivery-list entries-is;
+        }

@@ -1,0 +1,5 @@
+pub mod Hours
+pub mod FirmMdqs
+pub mod PartRead
+pub mod Points
+pub mod FileLists

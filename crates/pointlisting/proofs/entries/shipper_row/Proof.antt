@@ -1,0 +1,57 @@
+-- No row that the search has passed is the shipper's.
+use mathlib.Core.Path.{sym, _∙_}
+use Prim.Native.Nat.{_-_}
+use lib.Dec.{eqb}
+use borrow.Author.Tests.{eq-eqb, ne-eqb}
+use Rattle.columns.specs.Column.{col}
+use Rattle.columns.proofs.Firsts.{Searched, searched-none, searched-more, stops, ends}
+use Rattle.dayvalues.specs.Shippers.{shipper-of}
+use borrow.Author.Needs.{needs}
+use Rattle.pointlisting.proofs.entries.shipper_row.Statement.{statement}
+use Rattle.pointlisting.proofs.entries.shipper_row.Tie as tie
+
+abbrev Inv-loop : tie.InvT-loop
+Inv-loop counts numbers shipper rows row₀ row = Searched (λ i. eqb (shipper-of counts (col numbers) i) shipper) (counts .shippers) row
+
+abbrev μ-loop : tie.MeasureT-loop
+μ-loop counts numbers shipper rows row₀ row = rows - row
+
+loop-holds : tie.Need-loop-holds Inv-loop μ-loop
+loop-holds c = searched-none _ _
+
+number-at-requires : tie.Need-number-at-requires Inv-loop μ-loop
+number-at-requires c κs = search needs
+
+returns : tie.Need-returns Inv-loop μ-loop
+returns c =
+    let turn = c .before .before in
+    stops _ _ _ (turn .before .loop .inv) (turn .loop-test .taken) (eq-eqb _ _ (sym (c .before .number-at .ensures) ∙ c .if1 .taken))
+
+add-row : tie.Need-add-row Inv-loop μ-loop
+add-row c = search needs
+
+loop-less : tie.Need-loop-less Inv-loop μ-loop
+loop-less c = search needs
+
+loop-again : tie.Need-loop-again Inv-loop μ-loop
+loop-again c =
+    let turn = c .before .before in
+    searched-more _ _ _ (turn .before .loop .inv) (turn .loop-test .taken)
+    (ne-eqb _ _ (λ same. c .if1 .left (c .before .number-at .ensures ∙ same)))
+
+returns-2 : tie.Need-returns-2 Inv-loop μ-loop
+returns-2 c = ends _ _ _ (c .before .loop .inv) (c .loop-test .left)
+
+pub shipper-row-spec : {M : Type 1} → statement M
+shipper-row-spec =
+    tie.close
+    (tie.spec
+    Inv-loop
+    μ-loop
+    loop-holds
+    number-at-requires
+    returns
+    add-row
+    loop-less
+    loop-again
+    returns-2)

@@ -1,0 +1,48 @@
+-- The word and the figure in turn make the line.
+use native.Mathlib.Omega.{arith}
+use Rattle.lines.proofs.Lining.{line-word}
+use borrow.Author.Needs.{needs}
+use Rattle.pointlisting.proofs.list.put_day.Statement.{statement}
+use Rattle.pointlisting.proofs.list.put_day.Tie as tie
+
+slice-aggregate-put-word : tie.Need-slice-aggregate-put-word
+slice-aggregate-put-word c = search needs
+
+put-word-requires : tie.Need-put-word-requires
+put-word-requires c κs = search needs
+
+slice-aggregate-put-line : tie.Need-slice-aggregate-put-line
+slice-aggregate-put-line c = search needs
+
+add-put-line : tie.Need-add-put-line
+add-put-line c = search needs
+
+put-line-requires : tie.Need-put-line-requires
+put-line-requires c κs = search needs
+
+add-result : tie.Need-add-result
+add-result c = search needs
+
+same-length : tie.Need-same-length
+same-length c = search needs
+
+returns : tie.Need-returns
+returns c =
+    let line = c .before .before in
+    let word = line .before .before .before .before .before in (
+      line-word _ _ _ (word .put-word .ensures) (line .put-line .ensures .0),
+      omega (arith, word .put-word .ensures .counts, line .put-line .ensures .1),
+    )
+
+pub put-day-spec : {M : Type 1} → statement M
+put-day-spec =
+    tie.close
+    (tie.spec
+    slice-aggregate-put-word
+    put-word-requires
+    slice-aggregate-put-line
+    add-put-line
+    put-line-requires
+    add-result
+    same-length
+    returns)

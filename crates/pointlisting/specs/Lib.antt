@@ -1,0 +1,2 @@
+pub mod PointsText
+pub mod Parts

@@ -1,0 +1,7 @@
+// From a day file's bytes to the listing of its points.
+mod entries;
+mod hour;
+mod list;
+mod point;
+
+pub use list::list_points;
