@@ -22,7 +22,7 @@ from dayformat import ENTRY, HEAD, METER, POINT, SHIPPER
 DAYS = ("small", "cool")
 
 # What the gate runs a program on, and what it must print.
-RUN_ON = {"charges": "cool"}
+RUN_ON = {"charges": "cool", "points": "cool"}
 
 SIDES = ("receipt", "delivery")
 

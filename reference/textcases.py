@@ -136,9 +136,8 @@ ROUTINES = (
         refusal_cases,
     ),
     FileRoutine("list_shares", (Room(), Bytes()), answer_shares, shares_cases),
+    FileRoutine(
+        "list_charges", (Figure(RATE), Room(), Bytes()), answer_charges, charges_cases
+    ),
+    FileRoutine("list_points", (Room(), Bytes()), answer_points, points_cases),
 )
-
-CHARGES = FileRoutine(
-    "list_charges", (Figure(RATE), Room(), Bytes()), answer_charges, charges_cases
-)
-POINTS = FileRoutine("list_points", (Room(), Bytes()), answer_points, points_cases)

@@ -19,6 +19,8 @@ REFUSALS = {
     "entries_of_point": {0},
     "refusal_line": {0, 7},
     "list_shares": {0, 1, 2, 3, 4, 5, 7},
+    "list_charges": {0, 1, 2, 3, 4, 5, 7},
+    "list_points": {0, 1, 2, 3, 4, 5, 7},
 }
 
 

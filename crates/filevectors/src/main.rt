@@ -49,6 +49,8 @@ fn answer(case: &[u8]) {
         4 => entries::answer_part(given),
         5 => texts::answer_refusal(given),
         6 => texts::answer_shares(given),
+        7 => texts::answer_charges(given),
+        8 => texts::answer_points(given),
         _ => {}
     }
     io::write_all(1, b"\n");

@@ -10,6 +10,7 @@ use crate::lent::LENT_BYTE;
 use crate::lent::MOST_BYTES;
 use crate::lent::put_block;
 use lines::Listing;
+use units::Rate;
 use units::Refusal;
 
 // How many bytes the text has, and the lent block.
@@ -40,5 +41,22 @@ pub fn answer_shares(case: &[u8]) {
     let room = smaller(word(case, 0) as usize, MOST_BYTES);
     let listing = sharelisting::list_shares(bytes(past(case, 1)), &mut lent[0..room]);
     io::write_all(1, b"list_shares");
+    put_text(listing, &lent, room);
+}
+
+pub fn answer_charges(case: &[u8]) {
+    let mut lent = [LENT_BYTE; MOST_BYTES];
+    let room = smaller(word(case, 1) as usize, MOST_BYTES);
+    let rate = Rate(word(case, 0));
+    let listing = chargelisting::list_charges(bytes(past(case, 2)), rate, &mut lent[0..room]);
+    io::write_all(1, b"list_charges");
+    put_text(listing, &lent, room);
+}
+
+pub fn answer_points(case: &[u8]) {
+    let mut lent = [LENT_BYTE; MOST_BYTES];
+    let room = smaller(word(case, 0) as usize, MOST_BYTES);
+    let listing = pointlisting::list_points(bytes(past(case, 1)), &mut lent[0..room]);
+    io::write_all(1, b"list_points");
     put_text(listing, &lent, room);
 }

@@ -8,7 +8,7 @@ use Rattle.columns.specs.First.{first}
 use Rattle.units.specs.declared.refusal.Check.{Check}
 use Rattle.units.specs.declared.refusal.Check.the-variants as Check
 use Rattle.text.specs.Text.{decimal}
-use Rattle.lines.specs.Line.{line, decimals, refused}
+use Rattle.lines.specs.Line.{line, decimals, day-word, refused}
 use Rattle.pointshares.specs.Share.{shares}
 use Rattle.pointshares.specs.Answer.{check}
 use Rattle.dayformat.specs.declared.day.Day.{Day}
@@ -23,10 +23,7 @@ use Rattle.dayvalues.specs.Column.{column}
 use Rattle.dayvalues.specs.Shippers.{shipper-of}
 use Rattle.entrylists.specs.PointRows.{many-rows, entry-number}
 
--- DAY, POINT
-abbrev pub day-word : List ℕ
-day-word = 68 ∷ 65 ∷ 89 ∷ []
-
+-- POINT
 abbrev pub point-word : List ℕ
 point-word = 80 ∷ 79 ∷ 73 ∷ 78 ∷ 84 ∷ []
 

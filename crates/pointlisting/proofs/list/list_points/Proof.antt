@@ -4,6 +4,7 @@ use Prim.Native.Nat.{ℕ}
 use lib.ListN.{length-replicate}
 use Rattle.bigendian.specs.Number.{AreBytes}
 use Rattle.listings.proofs.Listing.{lists-refusal, part-inside, part-long, lists-day}
+use Rattle.columns.specs.Column.{col}
 use Rattle.pointlisting.specs.PointsText.{points-text}
 use Rattle.pointlisting.proofs.FileLists.{reads-part}
 use borrow.Author.Needs.{needs}
@@ -69,7 +70,8 @@ returns-2 c =
     let count = listed .before .before .before in
     let read = count .before .before .before .before .before in
     let given = count .before .before .reading2 .given in
-    lists-day (file-of read) _ _ (given .0 .0) (bytes-of read) (rw (given .1) at (read .read-day .ensures)) points-text
+    lists-day (file-of read) _ _ (given .0 .0) (bytes-of read) (rw (given .1) at (read .read-day .ensures))
+    (λ day numbers. points-text day (col numbers))
     (rw (count .numbers-of .ensures .0) at (listed .list-day .ensures))
 
 pub list-points-spec : {M : Type 1} → statement M
