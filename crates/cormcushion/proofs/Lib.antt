@@ -1,0 +1,4 @@
+pub mod Checking
+pub mod Charging
+pub mod Unpacking
+pub mod Determined

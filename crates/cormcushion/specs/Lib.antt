@@ -1,0 +1,4 @@
+pub mod Packed
+pub mod Answers
+pub mod Lent
+pub mod Meter

@@ -1,0 +1,37 @@
+// From a day file's bytes to the text that a program prints: its size, with the text at the front of the lent block.
+use crate::answers::of_listing;
+use units::Rate;
+ghost use Rattle.dayfile.specs.File.{walked};
+ghost use Rattle.dayruns.specs.Walk.{file-check};
+ghost use Rattle.sharelisting.specs.SharesText as shares;
+ghost use Rattle.chargelisting.specs.ChargesText as charges;
+ghost use Rattle.pointlisting.specs.PointsText as points;
+ghost use Rattle.cormcushion.specs.Lent.{Listed};
+
+// The listing of a day's shares.
+#[no_mangle]
+pub extern "C" fn cormcushion_list_shares(file: &[u8], text: &mut [u8]) -> u64
+    ensures { λ r. ⌜ Listed (file-check (walked (now (file .entry)))) (shares.file-text (now (file .entry)))
+        (now (text .entry)) (now (text .exit)) r ⌝ }
+{
+    of_listing(sharelisting::list_shares(file, text))
+}
+
+// The listing of a day's expected overrun charges at a rate.
+#[no_mangle]
+pub extern "C" fn cormcushion_list_charges(file: &[u8], rate: u32, text: &mut [u8]) -> u64
+    ensures { λ r. ⌜ Listed (charges.charges-check (record { 0 = rate }) (now (file .entry)))
+        (charges.file-text (record { 0 = rate }) (now (file .entry)))
+        (now (text .entry)) (now (text .exit)) r ⌝ }
+{
+    of_listing(chargelisting::list_charges(file, Rate(rate), text))
+}
+
+// The listing of the hours at a day's points.
+#[no_mangle]
+pub extern "C" fn cormcushion_list_points(file: &[u8], text: &mut [u8]) -> u64
+    ensures { λ r. ⌜ Listed (file-check (walked (now (file .entry)))) (points.file-text (now (file .entry)))
+        (now (text .entry)) (now (text .exit)) r ⌝ }
+{
+    of_listing(pointlisting::list_points(file, text))
+}

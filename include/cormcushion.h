@@ -1,0 +1,95 @@
+/* Cormcushion for callers in C, and in whatever can call C: link libcormcushion.a, which `rt staticlib cormcushion` writes for x86-64.
+ *
+ * Every function takes every input that its parameters can hold, returns, and writes to nothing but what is lent to it. What nothing
+ * checks is the call itself: a pointer must lead to as many elements as the count behind it says, or as its parameter's brackets say,
+ * and what is lent to be written must not overlap anything else that is passed. An empty list may have any pointer.
+ *
+ * The answer is one number in fixed decimal digits: the last fifteen are a figure, the two before them 01's refusal number, those
+ * before these a kind, which is 0 today. Where the number is 0 the call is accepted and the figure is its answer; else the call is
+ * refused, the figure is the refusal's place, and everything lent is as it was. */
+#ifndef CORMCUSHION_H
+#define CORMCUSHION_H
+
+#include <stddef.h>
+#include <stdint.h>
+
+#ifdef __cplusplus
+extern "C" {
+#endif
+
+#define CORMCUSHION_FIGURE(answer) ((answer) % 1000000000000000u)
+#define CORMCUSHION_NUMBER(answer) ((answer) / 1000000000000000u % 100u)
+#define CORMCUSHION_KIND(answer) ((answer) / 100000000000000000u)
+
+/* The listing of a day file's shares, as the program `shares` prints it.
+ * Reads:    file, the bytes of a day file.
+ * Writes:   the text to the front of `text`; no 0 byte follows it. 2,048 bytes hold every listing.
+ * Figure:   the text's length in bytes.
+ * Refuses:  what the reader refuses, at the field's first byte; 7 at 0 where the text is longer than the room. */
+uint64_t cormcushion_list_shares(const uint8_t *file, size_t file_length, uint8_t *text, size_t text_room);
+
+/* The listing of a day file's expected overrun charges, as the program `charges` prints it.
+ * Reads:    file; the rate in hundred-thousandths of a dollar, Schedule 2's being 359000.
+ * Writes:   the text to the front of `text`. 8,192 bytes hold every listing.
+ * Figure:   the text's length in bytes.
+ * Refuses:  3 at 0 for a rate above 100,000,000, before the file; else as cormcushion_list_shares. */
+uint64_t cormcushion_list_charges(const uint8_t *file, size_t file_length, uint32_t rate, uint8_t *text, size_t text_room);
+
+/* The listing of the hours at a day file's points, as the program `points` prints it; a point's own refusal is a line of the text.
+ * Reads:    file.
+ * Writes:   the text to the front of `text`. 16,384 bytes hold every listing.
+ * Figure:   the text's length in bytes.
+ * Refuses:  as cormcushion_list_shares. */
+uint64_t cormcushion_list_points(const uint8_t *file, size_t file_length, uint8_t *text, size_t text_room);
+
+/* The check of a day file.
+ * Reads:    file.
+ * Writes:   nothing.
+ * Figure:   how many numbers the day's tables have: the room that cormcushion_read_day needs.
+ * Refuses:  1 to 5, at the field's first byte. */
+uint64_t cormcushion_check_day(const uint8_t *file, size_t file_length);
+
+/* A day file's numbers.
+ * Reads:    file.
+ * Writes:   every number of the day's tables, row by row in the file's order, to the front of `numbers`; to `day` the day's number,
+ *           the free flow and the compressor capacity, then how many shippers, points, entries and meters there are.
+ * Figure:   how many numbers there are; 6,880 at most.
+ * Refuses:  as cormcushion_check_day; 7 at 0 where there are more numbers than the room. */
+uint64_t cormcushion_read_day(const uint8_t *file, size_t file_length, uint32_t day[7], size_t *numbers, size_t numbers_room);
+
+/* One sharing round, in gigajoules.
+ * Reads:    the capacity, and for each row its weight and its need.
+ * Writes:   each row's share to the front of `shares`.
+ * Figure:   the level.
+ * Refuses:  9, 3, 7; a row's 3 at the row from 0. */
+uint64_t cormcushion_share_round(uint32_t capacity, const uint32_t *weights, size_t weights_count, const uint32_t *needs,
+                                 size_t needs_count, uint32_t *shares, size_t shares_room);
+
+/* A day's shares, in gigajoules.
+ * Reads:    both capacities, and five lists with a figure for each shipper.
+ * Writes:   each class's shares to the front of its list; to `levels` those of rounds one, two and three, auction, lower tier.
+ * Figure:   LEFT.
+ * Refuses:  9, 3, 4, 7; a row's 3 or 4 at the row from 0. */
+uint64_t cormcushion_share_day(uint32_t free_flow, uint32_t compressor, const uint32_t *firm_mdq, size_t firm_mdq_count,
+                               const uint32_t *auction_mdq, size_t auction_mdq_count, const uint32_t *firm_schedule,
+                               size_t firm_schedule_count, const uint32_t *auction_schedule, size_t auction_schedule_count,
+                               const uint32_t *lower_tier_schedule, size_t lower_tier_schedule_count, uint32_t *firm,
+                               size_t firm_room, uint32_t *auction, size_t auction_room, uint32_t *lower_tier,
+                               size_t lower_tier_room, uint64_t levels[5]);
+
+/* One shipper's overruns of a day, in megajoules, and their charge.
+ * Reads:    the rate in hundred-thousandths of a dollar; P and M, yesterday's and today's Adjusted MDQ in gigajoules; the hours in
+ *           megajoules; the schedules in gigajoules: forward receipt, forward delivery, backhaul receipt, backhaul delivery; the
+ *           backhaul metered in megajoules: receipt, delivery.
+ * Writes:   to `overruns` the hourly, the twelve-hourly, the daily receipt and the daily delivery overrun, and the greatest.
+ * Figure:   the charge for the greatest, in cents.
+ * Refuses:  3: at 0 the rate or another single figure, else the hour from 0 in its own list. */
+uint64_t cormcushion_overruns(uint32_t rate, uint32_t p, uint32_t m, const uint64_t yesterday[11], const uint64_t delivered[24],
+                              const uint64_t received[24], const uint32_t schedules[4], const uint64_t metered[2],
+                              uint64_t overruns[5]);
+
+#ifdef __cplusplus
+}
+#endif
+
+#endif

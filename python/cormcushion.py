@@ -1,0 +1,167 @@
+"""Cormcushion from Python: the proved library by ctypes, and nothing besides Python's own library.
+
+`bash callers/build` makes the shared object, target/callers/libcormcushion.so, which is for x86-64. Another place for it can be
+named by the environment's CORMCUSHION_LIBRARY. Every function either answers or raises Refusal with 01's number and place. A figure
+that is no whole number from 0 up to the greatest of its width is no input at all: OverflowError or TypeError.
+"""
+
+import ctypes
+import os
+import pathlib
+from array import array
+from typing import NamedTuple
+
+OVERRUN_RATE = 359_000
+"""Schedule 2's rate for an overrun as at January 2019, in hundred-thousandths of a dollar."""
+
+_SHARED_OBJECT = pathlib.Path(__file__).resolve().parent.parent.joinpath("target", "callers", "libcormcushion.so")
+_library = ctypes.CDLL(os.environ.get("CORMCUSHION_LIBRARY", str(_SHARED_OBJECT)))
+
+_ONE_NUMBER = 10**15
+# Every listing has room in so many bytes.
+_MOST_TEXT = 16_384
+
+
+class Refusal(Exception):
+    """Why a call is refused: 01's number; and the place, a byte of a file, a row or an hour of a list, else 0."""
+
+    def __init__(self, number, place):
+        super().__init__(number, place)
+        self.number = number
+        self.place = place
+
+    def __str__(self):
+        return f"refused by {self.number} at {self.place}"
+
+
+class DayShares(NamedTuple):
+    """Each shipper's gigajoules by class, the levels of the five rounds, and what is left."""
+
+    firm: list
+    auction: list
+    lower_tier: list
+    levels: list
+    left: int
+
+
+class Overruns(NamedTuple):
+    """A shipper's four overruns of a day in megajoules, the greatest of them, and its charge in cents."""
+
+    hourly: int
+    twelve_hourly: int
+    daily_receipt: int
+    daily_delivery: int
+    greatest: int
+    cents: int
+
+
+def _typed(name, *types):
+    """A function of the library, each of whose answers is one packed number."""
+    function = getattr(_library, name)
+    function.restype = ctypes.c_uint64
+    function.argtypes = types
+    return function
+
+
+_LIST = (ctypes.c_void_p, ctypes.c_size_t)
+_check_day = _typed("cormcushion_check_day", ctypes.c_char_p, ctypes.c_size_t)
+_list_shares = _typed("cormcushion_list_shares", ctypes.c_char_p, ctypes.c_size_t, *_LIST)
+_list_charges = _typed("cormcushion_list_charges", ctypes.c_char_p, ctypes.c_size_t, ctypes.c_uint32, *_LIST)
+_list_points = _typed("cormcushion_list_points", ctypes.c_char_p, ctypes.c_size_t, *_LIST)
+_share_day = _typed("cormcushion_share_day", *[ctypes.c_uint32] * 2, *_LIST * 8, ctypes.c_void_p)
+_overruns = _typed("cormcushion_overruns", *[ctypes.c_uint32] * 3, *[ctypes.c_void_p] * 6)
+
+
+def _figure(answer):
+    """The figure of an accepted answer."""
+    number, figure = divmod(answer, _ONE_NUMBER)
+    if number:
+        raise Refusal(number, figure)
+    return figure
+
+
+def _narrow(figures):
+    """Numbers of 32 bits as C has them; one that does not fit is an OverflowError."""
+    return array("I", figures)
+
+
+def _wide(figures):
+    """Numbers of 64 bits."""
+    return array("Q", figures)
+
+
+def _lent(figures):
+    """A list as the library takes it: where it is and how many."""
+    return figures.buffer_info()
+
+
+def _hours(figures, count):
+    """An hour list of its stated length, else 01's 9."""
+    if len(figures) != count:
+        raise Refusal(9, 0)
+    return _wide(figures)
+
+
+def _one(figure):
+    """A single figure that fits its width."""
+    return _narrow([figure])[0]
+
+
+def _text(listing, file, *more):
+    """The text of a listing."""
+    text = ctypes.create_string_buffer(_MOST_TEXT)
+    size = _figure(listing(file, len(file), *more, ctypes.addressof(text), _MOST_TEXT))
+    return text.raw[:size].decode("ascii")
+
+
+def check(file):
+    """Checks a day file's bytes: how many numbers its tables have, or the reader's refusal."""
+    return _figure(_check_day(file, len(file)))
+
+
+def shares(file):
+    """The listing of a day file's shares: DAY number FIRM total LEFT left, then a line for each shipper."""
+    return _text(_list_shares, file)
+
+
+def charges(file, rate=OVERRUN_RATE):
+    """The listing of a day file's expected overrun charges: DAY number RATE rate, then a line for each shipper with a meter."""
+    return _text(_list_charges, file, _one(rate))
+
+
+def points(file):
+    """The listing of the hours at a day file's points: DAY number, then each point with its shippers' shares or its own refusal."""
+    return _text(_list_points, file)
+
+
+def share_day(
+    free_flow, compressor, firm_mdqs, auction_mdqs, firm_schedules, auction_schedules, lower_tier_schedules
+):
+    """A day's shares from both capacities and five lists of a figure for each shipper, all in gigajoules."""
+    lists = (firm_mdqs, auction_mdqs, firm_schedules, auction_schedules, lower_tier_schedules)
+    given = [_narrow(figures) for figures in lists]
+    lent = [_narrow([0] * len(firm_mdqs)) for _ in range(3)]
+    levels = _wide([0] * 5)
+    places = [part for figures in (*given, *lent) for part in _lent(figures)]
+    left = _figure(_share_day(_one(free_flow), _one(compressor), *places, _lent(levels)[0]))
+    return DayShares(*map(list, lent), list(levels), left)
+
+
+def overruns(p, m, yesterday, delivered, received, schedules, metered, rate=OVERRUN_RATE):
+    """One shipper's overruns of a day and their charge.
+
+    P and M in gigajoules; 11 delivered hours of yesterday, 24 delivered and 24 received ones of today, in megajoules; schedules in
+    gigajoules: forward receipt, forward delivery, backhaul receipt, backhaul delivery; backhaul metered in megajoules: receipt,
+    delivery.
+    """
+    hours = [_hours(yesterday, 11), _hours(delivered, 24), _hours(received, 24)]
+    forward_receipt, forward_delivery, backhaul_receipt, backhaul_delivery = schedules
+    receipt, delivery = metered
+    sides = [
+        _narrow([forward_receipt, forward_delivery, backhaul_receipt, backhaul_delivery]),
+        _wide([receipt, delivery]),
+    ]
+    lent = _wide([0] * 5)
+    places = [_lent(figures)[0] for figures in (*hours, *sides, lent)]
+    cents = _figure(_overruns(_one(rate), _one(p), _one(m), *places))
+    return Overruns(*lent, cents)
