@@ -3,4 +3,3 @@ pub mod Sides
 pub mod SideRuns
 pub mod Parts
 pub mod FileEntries
-pub mod Determined

@@ -1,11 +1,40 @@
-// A day's tag 4 fields as a receipt list and a delivery list: where the second begins, opened.
+// A day's tag 4 fields as a receipt list and a delivery list: where they stand in a file, and where the second begins, opened.
+use dayformat::Counts;
+use dayformat::file_size;
 ghost use mathlib.Core.Path.{_≡_};
-ghost use Rattle.entrylists.specs.SideLists.{first-delivery};
+ghost use Prim.Native.Nat.{_+_};
+ghost use Rattle.dayformat.specs.declared.form.Tag.the-variants.{Entry};
+ghost use Rattle.dayformat.specs.Layout.{run-size};
+ghost use Rattle.entrylists.specs.SideLists.{entries-start, first-delivery};
 
 // How many bytes an entry has, and which of them is its side.
 const ENTRY_SIZE: usize = 12;
 
 const SIDE: usize = 3;
+
+// The byte at which a file's entries begin: so long is the file of a day without them.
+pub fn entries_start(counts: Counts) -> usize
+    ensures { λ r. ⌜ r ≡ entries-start counts ⌝ }
+{
+    file_size(Counts {
+        shippers: counts.shippers,
+        points: counts.points,
+        entries: 0,
+        meters: 0,
+    })
+}
+
+// The byte at which they end.
+pub fn entries_end(counts: Counts) -> usize
+    ensures { λ r. ⌜ r ≡ entries-start counts + run-size counts Entry ⌝ }
+{
+    file_size(Counts {
+        shippers: counts.shippers,
+        points: counts.points,
+        entries: counts.entries,
+        meters: 0,
+    })
+}
 
 // The byte at which the first entry of side 1 begins in a run of entries, or the end of the last whole entry.
 pub fn first_delivery(entries: &[u8]) -> usize

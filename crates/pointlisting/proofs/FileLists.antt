@@ -21,7 +21,7 @@ use Rattle.roundtrip.proofs.FileAgain.{day-accepted}
 use Rattle.roundtrip.proofs.OnRoutines.{reads-day, taken-numbers}
 use Rattle.entrylists.specs.SideLists.{entries-start, entry-bytes, first-delivery, receipt-list, delivery-list}
 use Rattle.entrylists.proofs.FileEntries.{entries-are, entries-inside}
-use Rattle.pointlisting.specs.Parts.{Readable}
+use Rattle.pointlisting.specs.Readable.{Readable}
 
 -- what the reader has answered is read out of the file
 pub reads-part : (file lent numbers : List ℕ) (day : Day) → AreBytes file → reader.Answered file lent numbers (Reading.Read day)

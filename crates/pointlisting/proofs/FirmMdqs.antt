@@ -22,7 +22,7 @@ use Rattle.dayrows.proofs.Within.{both, passes-bounded, within-bounds}
 use Rattle.daywriter.proofs.Accepting.{Sound}
 use Rattle.dayvalues.specs.Row.{number-at}
 use Rattle.dayvalues.specs.Shippers.{shipper-of}
-use Rattle.pointlisting.specs.PointsText.{shipper-row, firm-mdq}
+use Rattle.pointhours.specs.HourText.{shipper-row, firm-mdq}
 
 -- a key of one number
 key-same : (numbers : ℕ → ℕ) (one other : ℕ) → leb 1 (difference numbers 1 one other) ≡ eqb (numbers (one + 0)) (numbers other)

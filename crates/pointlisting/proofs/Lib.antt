@@ -1,4 +1,3 @@
-pub mod Hours
 pub mod FirmMdqs
 pub mod PartRead
 pub mod Points

@@ -2,7 +2,7 @@
 use mathlib.Core.Path.{_≡_, refl, ap, ap₂, sym, _∙_}
 use mathlib.Core.Bool.{not}
 use mathlib.Core.List.{List, [], _∷_}
-use Prim.Native.Nat.{ℕ, _+_, _-_, _*_, _≤_, _<_}
+use Prim.Native.Nat.{ℕ, min, _+_, _-_, _*_, _≤_, _<_}
 use native.Mathlib.Omega.{arith}
 use lib.ListN.{length, take, drop}
 use lib.Seq.{drop-drop}
@@ -27,8 +27,9 @@ use Rattle.pointentries.specs.Entries.{entries}
 use Rattle.pointentries.proofs.EntryLists.{place-is}
 use Rattle.entrylists.specs.PointRows.{is-entry, first-row, many-rows, entry-number, point-fields}
 use Rattle.entrylists.proofs.SideRuns.{number-again, list-long}
-use Rattle.pointlisting.specs.PointsText.{share-lines, hour-lines, entry-lines, firm-mdq}
-use Rattle.pointlisting.specs.Parts.{entries-in, shipper-in, entitlement-in, mdq-in, part-lines, Entries}
+use Rattle.pointhours.specs.HourText.{share-lines, hour-lines, firm-mdq}
+use Rattle.pointhours.specs.Parts.{most-number, entries-in, shipper-in, entitlement-in, mdq-in, part-lines}
+use Rattle.pointlisting.specs.PointsText.{entry-lines}
 use Rattle.pointlisting.proofs.FirmMdqs.{firm-bounded}
 
 -- ---- columns that agree on the entries make one text
@@ -93,7 +94,7 @@ module _ (day : Day) (numbers : List ℕ) (S : Sound day numbers) (side point : 
       )
 
   many-in : entries-in part ≡ many
-  many-in = omega (arith, list-long day numbers S from many 0 inside, place-is part 0 many)
+  many-in = omega (arith, list-long day numbers S from many 0 inside, place-is part 0 many, inside, S .few Entry)
 
   shipper-is : (entry : ℕ) → entry < many → shipper-in part entry ≡ entry-number (day .counts) (col numbers) side point entry 2
   shipper-is entry l = sym (shipper-there part entry) ∙ number-again day numbers S from many 0 inside entry 2 l (omega arith)
@@ -101,21 +102,20 @@ module _ (day : Day) (numbers : List ℕ) (S : Sound day numbers) (side point : 
   entitlement-is : (entry : ℕ) → entry < many → entitlement-in part entry ≡ entry-number (day .counts) (col numbers) side point entry 3
   entitlement-is entry l = sym (entitlement-there part entry) ∙ number-again day numbers S from many 0 inside entry 3 l (omega arith)
 
+  abbrev shipper : ℕ → ℕ
+  shipper entry = entry-number (day .counts) (col numbers) side point entry 2
+
+  -- a firm MDQ is far below what a u32 holds
+  mdq-is : (entry : ℕ) → entry < many
+      → mdq-in (day .counts) (col numbers) part entry ≡ firm-mdq (day .counts) (col numbers) (shipper entry)
+  mdq-is entry l =
+      ap (λ shipper. min (firm-mdq (day .counts) (col numbers) shipper) most-number) (shipper-is entry l)
+      ∙ omega (arith, firm-bounded day numbers S (from + entry) (omega (arith, inside, l)))
+
   pub lines-are : (capacity : ℕ)
       → part-lines (day .counts) (col numbers) part capacity ≡ entry-lines (day .counts) (col numbers) side point capacity
   lines-are capacity =
       ap (λ many. hour-lines capacity many (shipper-in part) (entitlement-in part) (mdq-in (day .counts) (col numbers) part)) many-in
-      ∙ hour-same capacity many (shipper-in part) (entitlement-in part) (mdq-in (day .counts) (col numbers) part)
-      (λ entry. entry-number (day .counts) (col numbers) side point entry 2)
+      ∙ hour-same capacity many (shipper-in part) (entitlement-in part) (mdq-in (day .counts) (col numbers) part) shipper
       (λ entry. entry-number (day .counts) (col numbers) side point entry 3)
-      (λ entry. firm-mdq (day .counts) (col numbers) (entry-number (day .counts) (col numbers) side point entry 2))
-      shipper-is entitlement-is (λ entry l. ap (firm-mdq (day .counts) (col numbers)) (shipper-is entry l))
-
-  pub entries-known : Entries (day .counts) (col numbers) part
-  entries-known =
-      record {
-        few = omega (arith, many-in, inside, S .few Entry);
-        known = λ entry l.
-            let near : entry < many = omega (arith, many-in, l) in
-            rw (shipper-is entry near) (firm-bounded day numbers S (from + entry) (omega (arith, inside, near)));
-      }
+      (λ entry. firm-mdq (day .counts) (col numbers) (shipper entry)) shipper-is entitlement-is mdq-is

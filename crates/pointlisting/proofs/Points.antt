@@ -25,8 +25,9 @@ use Rattle.dayvalues.specs.Row.{number-at}
 use Rattle.entrylists.specs.PointRows.{point-fields}
 use Rattle.entrylists.proofs.Parts.{parted}
 use Rattle.pointlisting.specs.PointsText.{point-line, entry-lines, point-lines}
-use Rattle.pointlisting.specs.Parts.{part-lines, Entries, Readable}
-use Rattle.pointlisting.proofs.PartRead.{lines-are, entries-known}
+use Rattle.pointhours.specs.Parts.{part-lines}
+use Rattle.pointlisting.specs.Readable.{Readable}
+use Rattle.pointlisting.proofs.PartRead.{lines-are}
 
 asked-now : (side : ℕ) (receipt delivery : RefT (List ℕ)) → now (asked side receipt delivery) ≡ asked side (now receipt) (now delivery)
 asked-now zero receipt delivery = refl
@@ -70,9 +71,6 @@ module _ (day : Day) (numbers : List ℕ) (receipt delivery : RefT (List ℕ)) (
           ∙ rw (R .receipt-is, R .delivery-is) (parted day numbers S side point
           (omega (arith, side-is, side-small day numbers (R .sound) row l))
           (omega (arith, point-is, point-small day numbers (R .sound) row l .0)) .part)
-
-      pub part-known : Entries (day .counts) (col numbers) (now part)
-      part-known = rw part-is (entries-known day numbers S side point)
 
       pub point-laid : {text between after : List ℕ} {at m n : ℕ} → Laid (point-line side point capacity) text at m between
           → Laid (part-lines (day .counts) (col numbers) (now part) capacity) between (at + m) n after

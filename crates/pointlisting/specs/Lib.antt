@@ -1,2 +1,2 @@
 pub mod PointsText
-pub mod Parts
+pub mod Readable

@@ -1,6 +1,4 @@
 // From a day file's bytes to the listing of its points.
-mod entries;
-mod hour;
 mod list;
 mod point;
 

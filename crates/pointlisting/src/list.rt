@@ -2,31 +2,27 @@
 use crate::point::put_point;
 use dayfile::Reading;
 use dayfile::read_day;
-use dayformat::Counts;
 use dayformat::Day;
-use dayformat::file_size;
 use dayformat::numbers_of;
+use entrylists::entries_end;
+use entrylists::entries_start;
 use entrylists::first_delivery;
 use lines::Listing;
 use lines::put_line;
 use lines::put_word;
 use units::Refusal;
-ghost use mathlib.Core.Path.{_≡_};
 ghost use Prim.Native.Nat.{_+_, _^_, _≤_};
 ghost use lib.ListN.{length};
 ghost use Rattle.columns.specs.Column.{col};
 ghost use Rattle.units.specs.declared.refusal.Check.the-variants.{Accepted};
 ghost use Rattle.text.specs.Text.{Laid};
 ghost use Rattle.lines.specs.Answer.{Listed};
-ghost use Rattle.dayformat.specs.declared.form.Tag.the-variants.{Entry};
-ghost use Rattle.dayformat.specs.Layout.{run-size};
 ghost use Rattle.dayformat.specs.Table.{joined};
 ghost use Rattle.dayruns.specs.Walk.{file-check};
 ghost use Rattle.dayfile.specs.File.{walked};
 ghost use Rattle.roundtrip.specs.RoundTrip.{Reads};
-ghost use Rattle.entrylists.specs.SideLists.{entries-start};
 ghost use Rattle.pointlisting.specs.PointsText.{day-line, point-lines, points-text, file-text};
-ghost use Rattle.pointlisting.specs.Parts.{Readable};
+ghost use Rattle.pointlisting.specs.Readable.{Readable};
 
 // How many numbers a day has at most.
 const MOST_NUMBERS: usize = 6_880;
@@ -45,30 +41,6 @@ pub fn list_points(file: &[u8], lent: &mut [u8]) -> Listing
             list_day(day, &numbers[..count], file, lent)
         }
     }
-}
-
-// The byte at which a file's entries begin: so long is the file of a day without them.
-fn entries_start(counts: Counts) -> usize
-    ensures { λ r. ⌜ r ≡ entries-start counts ⌝ }
-{
-    file_size(Counts {
-        shippers: counts.shippers,
-        points: counts.points,
-        entries: 0,
-        meters: 0,
-    })
-}
-
-// The byte at which they end.
-fn entries_end(counts: Counts) -> usize
-    ensures { λ r. ⌜ r ≡ entries-start counts + run-size counts Entry ⌝ }
-{
-    file_size(Counts {
-        shippers: counts.shippers,
-        points: counts.points,
-        entries: counts.entries,
-        meters: 0,
-    })
 }
 
 // DAY number.

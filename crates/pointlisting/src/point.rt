@@ -1,18 +1,18 @@
 // The lines of a point.
-use crate::hour::put_hour;
 use dayformat::Day;
 use dayformat::Tag;
 use dayvalues::number_at;
 use lines::put_line;
 use lines::put_word;
 use pointentries::entries_of_point;
+use pointhours::put_hour;
 use units::Megajoules;
 ghost use Prim.Native.Nat.{_+_, _^_, _≤_, _<_};
 ghost use lib.ListN.{length};
 ghost use Rattle.columns.specs.Column.{col};
 ghost use Rattle.text.specs.Text.{Laid};
 ghost use Rattle.pointlisting.specs.PointsText.{point-line, point-lines};
-ghost use Rattle.pointlisting.specs.Parts.{Readable};
+ghost use Rattle.pointlisting.specs.Readable.{Readable};
 
 // POINT, side, point, capacity.
 fn put_title(side: u64, point: u64, capacity: u64, text: &mut [u8], at: usize) -> usize

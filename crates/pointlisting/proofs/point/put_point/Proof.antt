@@ -5,7 +5,7 @@ use native.Mathlib.Omega.{arith}
 use Rattle.columns.specs.Column.{col}
 use Rattle.dayformat.specs.declared.form.Tag.the-variants.{Point}
 use Rattle.dayvalues.specs.Row.{number-at}
-use Rattle.pointlisting.proofs.Points.{side-small, point-small, part-known, point-laid}
+use Rattle.pointlisting.proofs.Points.{side-small, point-small, point-laid}
 use borrow.Author.Needs.{needs}
 use Rattle.pointlisting.proofs.point.put_point.Statement.{statement}
 use Rattle.pointlisting.proofs.point.put_point.Tie as tie
@@ -58,13 +58,7 @@ add-put-hour c =
     omega (arith, put .put-title .ensures .1, start-of put .pre .2, start-of put .good .1 .1 .1 .1 .1 .0)
 
 put-hour-requires : tie.Need-put-hour-requires
-put-hour-requires c κs =
-    let part = c .before in
-    let put = part .before .before .before in (
-      part-known _ _ _ _ (start-of put .pre .0) _ (start-of put .pre .1) _ _ _ (side-of put) (point-of put) (capacity-of put) _
-          (part .entries-of-point .ensures),
-      omega (arith, put .put-title .ensures .1, put .put-title .kept .1 .1 .1 .0, start-of put .pre .2),
-    )
+put-hour-requires c κs = search needs
 
 add-result : tie.Need-add-result
 add-result c = search needs

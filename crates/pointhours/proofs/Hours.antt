@@ -20,8 +20,8 @@ use Rattle.pointshares.specs.declared.Hour.{Hour}
 use Rattle.pointshares.specs.declared.Hour.the-variants as Hour
 use Rattle.pointshares.specs.Share.{shares}
 use Rattle.pointshares.specs.Answer.{check, answer, Answered}
-use Rattle.pointlisting.specs.PointsText.{share-lines, hour-lines}
-use Rattle.pointlisting.specs.Parts.{most-entries, with-zeros}
+use Rattle.pointhours.specs.HourText.{share-lines, hour-lines}
+use Rattle.pointhours.specs.Parts.{most-entries, with-zeros}
 
 -- with room for every share, the room does not matter
 check-room : (capacity : ℕ) (entitlements mdqs : List ℕ) (room : ℕ) → length entitlements ≤ room
@@ -41,15 +41,16 @@ shared-check Check.Accepted given shared e = refl
 shared-check (Check.Refused x) given shared e = let no : _≡_ {A = ℕ} 0 1 = cc in absurd (omega (arith, no))
 
 -- ---- the front of an array
-module _ (many : ℕ) (f : ℕ → ℕ) (few : many ≤ most-entries) {made : List ℕ} (is : made ≡ with-zeros many f) where
+module _ (many : ℕ) (f : ℕ → ℕ) (few : many ≤ most-entries) {n : ℕ} {made : List ℕ} (as-many : n ≡ many)
+    (is : made ≡ with-zeros many f) where
   room : many ≤ length {A = ℕ} (replicate most-entries 0)
   room = omega (arith, few, length-replicate {A = ℕ} most-entries 0)
 
-  pub front-is : take many made ≡ listed many f
-  front-is = made-part many f (replicate most-entries 0) made room is
+  pub front-is : take n made ≡ listed many f
+  front-is = ap (λ n. take n made) as-many ∙ made-part many f (replicate most-entries 0) made room is
 
-  pub front-long : many ≡ length (take many made)
-  front-long = made-long many f (replicate most-entries 0) made room is
+  pub front-long : n ≡ length (take n made)
+  front-long = as-many ∙ made-long many f (replicate most-entries 0) made room is ∙ ap (λ n. length (take n made)) (sym as-many)
 
 -- ---- the hour
 module _ (capacity many : ℕ) (shipper entitlement mdq : ℕ → ℕ) (few : many ≤ most-entries) {entitlements mdqs lent after : List ℕ}

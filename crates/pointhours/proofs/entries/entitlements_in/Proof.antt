@@ -1,12 +1,13 @@
 -- The entries that the loop has gone over stand at the front.
+use mathlib.Core.Path.{ap, _∙_}
 use Prim.Native.Nat.{_-_, _≤_}
 use native.Mathlib.Omega.{arith}
 use lib.ListN.{replicate}
 use Rattle.columns.proofs.Lists.{Filling, filling-none, filling-next, filling-all}
-use Rattle.pointlisting.specs.Parts.{most-entries, entitlement-in}
+use Rattle.pointhours.specs.Parts.{most-entries, entitlement-in, with-zeros}
 use borrow.Author.Needs.{needs}
-use Rattle.pointlisting.proofs.entries.entitlements_in.Statement.{statement}
-use Rattle.pointlisting.proofs.entries.entitlements_in.Tie as tie
+use Rattle.pointhours.proofs.entries.entitlements_in.Statement.{statement}
+use Rattle.pointhours.proofs.entries.entitlements_in.Tie as tie
 
 abbrev Inv-loop : tie.InvT-loop
 Inv-loop part many entitlements₀ entry₀ entitlements entry =
@@ -14,6 +15,9 @@ Inv-loop part many entitlements₀ entry₀ entitlements entry =
 
 abbrev μ-loop : tie.MeasureT-loop
 μ-loop part many entitlements₀ entry₀ entitlements entry = many - entry
+
+entries-in-requires : tie.Need-entries-in-requires Inv-loop μ-loop
+entries-in-requires c κs = search needs
 
 loop-holds : tie.Need-loop-holds Inv-loop μ-loop
 loop-holds c = (filling-none _ _, omega arith)
@@ -44,7 +48,9 @@ loop-again c =
 returns : tie.Need-returns Inv-loop μ-loop
 returns c =
     let now = c .before .loop .inv in
+    let had = c .before .before in
     filling-all _ _ _ _ _ (now .0) (now .1) (c .loop-test .left)
+    ∙ ap (λ many. with-zeros many (entitlement-in (had .before .before .args .part .now))) (had .entries-in .ensures .0)
 
 pub entitlements-in-spec : {M : Type 1} → statement M
 entitlements-in-spec =
@@ -52,6 +58,7 @@ entitlements-in-spec =
     (tie.spec
     Inv-loop
     μ-loop
+    entries-in-requires
     loop-holds
     entitlement-in-requires
     cast-entitlements

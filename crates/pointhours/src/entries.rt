@@ -3,15 +3,34 @@ use bigendian::number_at;
 use dayformat::Counts;
 use dayformat::Tag;
 ghost use mathlib.Core.Path.{_≡_};
-ghost use Prim.Native.Nat.{_*_, _^_, _≤_, _<_};
+ghost use Prim.Native.Nat.{_≤_, _<_, min};
 ghost use Rattle.columns.specs.Column.{col};
-ghost use Rattle.pointlisting.specs.PointsText.{shipper-row, firm-mdq};
-ghost use Rattle.pointlisting.specs.Parts.{entries-in, shipper-in, entitlement-in, mdq-in, most-entries, with-zeros, Entries};
+ghost use Rattle.pointhours.specs.HourText.{shipper-row, firm-mdq};
+ghost use Rattle.pointhours.specs.Parts.{most-entries, most-number, entries-in, shipper-in, entitlement-in, mdq-in, with-zeros};
 
 // How many bytes an entry has, and how many entries a file has at most.
-pub const ENTRY_SIZE: usize = 12;
+const ENTRY_SIZE: usize = 12;
 
 pub const MOST_ENTRIES: usize = 512;
+
+// The greatest u32.
+const MOST_NUMBER: usize = 4_294_967_295;
+
+pub fn lesser(one: usize, other: usize) -> usize
+    ensures { λ r. ⌜ r ≡ min one other ⌝ }
+{
+    if one < other {
+        return one;
+    }
+    other
+}
+
+// How many entries a part has, of a longer run as many as a file can have.
+pub fn entries_in(part: &[u8]) -> usize
+    ensures { λ r. ⌜ (r ≡ entries-in (now (part .entry))) × (r ≤ most-entries) ⌝ }
+{
+    lesser(part.len() / ENTRY_SIZE, MOST_ENTRIES)
+}
 
 // The shipper of an entry.
 pub fn shipper_in(part: &[u8], entry: usize) -> u32
@@ -44,21 +63,20 @@ fn shipper_row(counts: Counts, numbers: &[usize], shipper: u32) -> u32
     row
 }
 
-// The firm MDQ of a shipper's row.
+// The firm MDQ of a shipper's row, as far as a u32 goes.
 fn firm_mdq(counts: Counts, numbers: &[usize], shipper: u32) -> u32
-    requires { ⌜ firm-mdq counts (col (now numbers)) shipper < 2 ^ 32 ⌝ }
-    ensures { λ r. ⌜ r ≡ firm-mdq counts (col (now (numbers .entry))) shipper ⌝ }
+    ensures { λ r. ⌜ r ≡ min (firm-mdq counts (col (now (numbers .entry))) shipper) most-number ⌝ }
 {
     let row = shipper_row(counts, numbers, shipper);
-    dayvalues::number_at(counts, numbers, Tag::Shipper, row, 1) as u32
+    let mdq = dayvalues::number_at(counts, numbers, Tag::Shipper, row, 1);
+    lesser(mdq, MOST_NUMBER) as u32
 }
 
 // The reserved entitlements of a point's entries, zeros past them.
 pub fn entitlements_in(part: &[u8]) -> [u64; 512]
-    requires { ⌜ entries-in (now part) ≤ most-entries ⌝ }
     ensures { λ r. ⌜ r ≡ with-zeros (entries-in (now (part .entry))) (entitlement-in (now (part .entry))) ⌝ }
 {
-    let many = part.len() / ENTRY_SIZE;
+    let many = entries_in(part);
     let mut entitlements = [0u64; MOST_ENTRIES];
     for entry in 0..many {
         entitlements[entry] = entitlement_in(part, entry) as u64;
@@ -68,10 +86,9 @@ pub fn entitlements_in(part: &[u8]) -> [u64; 512]
 
 // The firm MDQs of their shippers, zeros past them.
 pub fn mdqs_in(counts: Counts, numbers: &[usize], part: &[u8]) -> [u32; 512]
-    requires { ⌜ Entries counts (col (now numbers)) (now part) ⌝ }
     ensures { λ r. ⌜ r ≡ with-zeros (entries-in (now (part .entry))) (mdq-in counts (col (now (numbers .entry))) (now (part .entry))) ⌝ }
 {
-    let many = part.len() / ENTRY_SIZE;
+    let many = entries_in(part);
     let mut mdqs = [0u32; MOST_ENTRIES];
     for entry in 0..many {
         mdqs[entry] = firm_mdq(counts, numbers, shipper_in(part, entry));

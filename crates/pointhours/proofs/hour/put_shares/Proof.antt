@@ -7,11 +7,11 @@ use Rattle.columns.specs.Column.{col}
 use Rattle.units.specs.declared.refusal.Check.the-variants.{Accepted}
 use Rattle.text.specs.Text.{Laid}
 use Rattle.listings.proofs.Lines.{texts-none, texts-more, laid-long}
-use Rattle.pointlisting.specs.PointsText.{share-lines}
-use Rattle.pointlisting.specs.Parts.{entries-in, shipper-in}
+use Rattle.pointhours.specs.HourText.{share-lines}
+use Rattle.pointhours.specs.Parts.{entries-in, shipper-in}
 use borrow.Author.Needs.{needs}
-use Rattle.pointlisting.proofs.hour.put_shares.Statement.{statement}
-use Rattle.pointlisting.proofs.hour.put_shares.Tie as tie
+use Rattle.pointhours.proofs.hour.put_shares.Statement.{statement}
+use Rattle.pointhours.proofs.hour.put_shares.Tie as tie
 
 abbrev Inv-loop : tie.InvT-loop
 Inv-loop part shares text₀ at many entry₀ size₀ text entry size =
@@ -20,20 +20,23 @@ Inv-loop part shares text₀ at many entry₀ size₀ text entry size =
 abbrev μ-loop : tie.MeasureT-loop
 μ-loop part shares text₀ at many entry₀ size₀ text entry size = many - entry
 
+entries-in-requires : tie.Need-entries-in-requires Inv-loop μ-loop
+entries-in-requires c κs = search needs
+
 loop-holds : tie.Need-loop-holds Inv-loop μ-loop
 loop-holds c = (omega arith, omega arith, texts-none _)
 
 shipper-in-requires : tie.Need-shipper-in-requires Inv-loop μ-loop
 shipper-in-requires c κs = search needs
 
-cast-t12 : tie.Need-cast-t12 Inv-loop μ-loop
-cast-t12 c = search needs
+cast-t11 : tie.Need-cast-t11 Inv-loop μ-loop
+cast-t11 c = search needs
 
-mul-t13 : tie.Need-mul-t13 Inv-loop μ-loop
-mul-t13 c = search needs
+mul-t12 : tie.Need-mul-t12 Inv-loop μ-loop
+mul-t12 c = search needs
 
-shared-slice-read-t15 : tie.Need-shared-slice-read-t15 Inv-loop μ-loop
-shared-slice-read-t15 c = search needs
+shared-slice-read-t14 : tie.Need-shared-slice-read-t14 Inv-loop μ-loop
+shared-slice-read-t14 c = search needs
 
 slice-aggregate-put-line : tie.Need-slice-aggregate-put-line Inv-loop μ-loop
 slice-aggregate-put-line c = search needs
@@ -70,9 +73,9 @@ same-length c = laid-long (c .before .loop .inv .2)
 returns : tie.Need-returns Inv-loop μ-loop
 returns c =
     let now = c .before .loop in
-    let start = c .before .before .before .before .before in
-    let all : entries-in (start .args .part .now) ≡ now .entry = le-antisymm (c .loop-test .left) (now .inv .0) in
-    (rw all (now .inv .2), omega (arith, now .inv .1, all, start .pre .0))
+    let had = c .before .before in
+    let all : had .entries-in .result ≡ now .entry = le-antisymm (c .loop-test .left) (now .inv .0) in
+    (rw (← had .entries-in .ensures .0, all) (now .inv .2), omega (arith, now .inv .1, all, had .entries-in .ensures .1))
 
 pub put-shares-spec : {M : Type 1} → statement M
 put-shares-spec =
@@ -80,11 +83,12 @@ put-shares-spec =
     (tie.spec
     Inv-loop
     μ-loop
+    entries-in-requires
     loop-holds
     shipper-in-requires
-    cast-t12
-    mul-t13
-    shared-slice-read-t15
+    cast-t11
+    mul-t12
+    shared-slice-read-t14
     slice-aggregate-put-line
     add-put-line
     put-line-requires

@@ -1,7 +1,8 @@
 // An hour at a point, shared and laid as lines.
-use crate::entries::ENTRY_SIZE;
 use crate::entries::MOST_ENTRIES;
 use crate::entries::entitlements_in;
+use crate::entries::entries_in;
+use crate::entries::lesser;
 use crate::entries::mdqs_in;
 use crate::entries::shipper_in;
 use dayformat::Counts;
@@ -11,22 +12,22 @@ use pointshares::Hour;
 use pointshares::share_hour;
 use units::Megajoules;
 ghost use mathlib.Core.Path.{_≡_};
-ghost use Prim.Native.Nat.{_+_, _^_, _≤_};
+ghost use Prim.Native.Nat.{_^_, _≤_};
 ghost use lib.ListN.{length};
 ghost use Rattle.columns.specs.Column.{col};
 ghost use Rattle.text.specs.Text.{Laid};
 ghost use Rattle.units.specs.declared.refusal.Check.the-variants.{Accepted};
-ghost use Rattle.pointlisting.specs.PointsText.{share-lines};
-ghost use Rattle.pointlisting.specs.Parts.{entries-in, shipper-in, most-entries, part-lines, Entries};
+ghost use Rattle.pointhours.specs.HourText.{share-lines};
+ghost use Rattle.pointhours.specs.Parts.{entries-in, shipper-in, most-entries, part-lines};
 
 // A line for each entry: its shipper and its share.
 fn put_shares(part: &[u8], shares: &[u64], text: &mut [u8], at: usize) -> usize
-    requires { ⌜ (entries-in (now part) ≤ most-entries) × (length (now shares) ≡ most-entries) × (at ≤ length (now text) + 2 ^ 32) ⌝ }
+    requires { ⌜ (length (now shares) ≡ most-entries) × (at ≤ length (now text)) ⌝ }
     ensures { λ r. ⌜ (Laid
         (share-lines Accepted (entries-in (now (part .entry))) (shipper-in (now (part .entry))) (col (now (shares .entry))))
         (now (text .entry)) at r (now (text .exit))) × (r ≤ 2 ^ 20) ⌝ }
 {
-    let many = part.len() / ENTRY_SIZE;
+    let many = entries_in(part);
     let mut entry = 0;
     let mut size = 0;
     while entry < many {
@@ -37,7 +38,7 @@ fn put_shares(part: &[u8], shares: &[u64], text: &mut [u8], at: usize) -> usize
     size
 }
 
-// The lines of a point's entries, or the line of the point's own refusal.
+// The lines of a point's entries, or the line of the point's own refusal. A place past the block's end counts as its end.
 pub fn put_hour(
     counts: Counts,
     numbers: &[usize],
@@ -46,17 +47,16 @@ pub fn put_hour(
     text: &mut [u8],
     at: usize,
 ) -> usize
-    requires { ⌜ Entries counts (col (now numbers)) (now part) × (at ≤ length (now text) + 2 ^ 32) ⌝ }
     ensures { λ r. ⌜ (Laid (part-lines counts (col (now (numbers .entry))) (now (part .entry)) (capacity .0))
         (now (text .entry)) at r (now (text .exit))) × (r ≤ 2 ^ 20) ⌝ }
 {
-    let many = part.len() / ENTRY_SIZE;
+    let many = entries_in(part);
     let entitlements = entitlements_in(part);
     let mdqs = mdqs_in(counts, numbers, part);
     let mut shares = [0u64; MOST_ENTRIES];
     let hour = share_hour(capacity, &entitlements[..many], &mdqs[..many], &mut shares);
     match hour {
         Hour::Refused(refusal) => put_refusal(refusal, text, at),
-        Hour::Shared(_) => put_shares(part, &shares, text, at),
+        Hour::Shared(_) => put_shares(part, &shares, text, lesser(at, text.len())),
     }
 }

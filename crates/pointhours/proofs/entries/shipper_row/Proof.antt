@@ -7,8 +7,8 @@ use Rattle.columns.specs.Column.{col}
 use Rattle.columns.proofs.Firsts.{Searched, searched-none, searched-more, stops, ends}
 use Rattle.dayvalues.specs.Shippers.{shipper-of}
 use borrow.Author.Needs.{needs}
-use Rattle.pointlisting.proofs.entries.shipper_row.Statement.{statement}
-use Rattle.pointlisting.proofs.entries.shipper_row.Tie as tie
+use Rattle.pointhours.proofs.entries.shipper_row.Statement.{statement}
+use Rattle.pointhours.proofs.entries.shipper_row.Tie as tie
 
 abbrev Inv-loop : tie.InvT-loop
 Inv-loop counts numbers shipper rows row₀ row = Searched (λ i. eqb (shipper-of counts (col numbers) i) shipper) (counts .shippers) row

@@ -1,0 +1,2 @@
+pub mod HourText
+pub mod Parts
