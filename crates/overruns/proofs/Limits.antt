@@ -10,18 +10,17 @@ use Rattle.units.specs.Unit.{thousandfold}
 use Rattle.overruns.specs.TwelveHourly.{period-limit}
 
 module _ (count : ℕ) (mdq : Gigajoules) {gas : Megajoules} (e : gas ≡ thousandfold mdq) where
-  pub thousandths-of : count * gas .0 / 1000 ≡ count * mdq .0
-  thousandths-of = rw (e, ← mul-assoc) (mul-div-cancel (count * mdq .0) (omega arith))
+  thousandth : gas .0 / 1000 ≡ mdq .0
+  thousandth = rw e (mul-div-cancel (mdq .0) (omega arith))
 
-  module _ (few : count ≤ 1000) (low : mdq .0 < 2 ^ 32) where
-    product : count * gas .0 ≤ 1000 * (2 ^ 32 * 1000)
-    product = let most : gas .0 ≤ 2 ^ 32 * 1000 = omega (arith, ap (λ x. x .0) e) in mul-le-mul few most
+  pub thousandths-of : count * (gas .0 / 1000) ≡ count * mdq .0
+  thousandths-of = ap (λ x. count * x) thousandth
 
-    pub thousandths-fit : count * gas .0 < 2 ^ 64
-    thousandths-fit = omega (arith, product)
-
-    pub thousandths-low : count * gas .0 / 1000 < 2 ^ 63
-    thousandths-low = omega (arith, product)
+  pub thousandths-low : count ≤ 1000 → mdq .0 < 2 ^ 32 → count * (gas .0 / 1000) < 2 ^ 63
+  thousandths-low few low =
+      let most : gas .0 / 1000 ≤ 2 ^ 32 = omega (arith, thousandth) in
+      let product : count * (gas .0 / 1000) ≤ 1000 * 2 ^ 32 = mul-le-mul few most in
+      omega (arith, product)
 
 -- the limit of the period that ends with hour h
 module _ (p m h : ℕ) where

@@ -28,12 +28,13 @@ pub fn greater(one: Megajoules, other: Megajoules) -> Megajoules
     one
 }
 
-// So many thousandths of an MDQ, as the clauses set their limits.
+// So many thousandths of an MDQ, as the clauses set their limits. One of them is whole, so that no division is left to do.
 pub fn thousandths(count: u64, mdq: Gigajoules) -> Megajoules
     requires { ⌜ count ≤ 1000 ⌝ }
     ensures { λ r. ⌜ (r .0 ≡ count * mdq .0) × (r .0 < 2 ^ 63) ⌝ }
 {
-    Megajoules(count * in_megajoules(mdq).0 / 1000)
+    let thousandth = in_megajoules(mdq).0 / 1000;
+    Megajoules(count * thousandth)
 }
 
 // The gas of some hours together.
