@@ -1,9 +1,12 @@
 // One sharing round, opened: the level and the shares of a capacity, or a refusal.
 mod examine;
 mod fill;
+mod guess;
 mod level;
 mod pass;
 mod share;
+mod unchanged;
+mod whole;
 
 use units::Check;
 use units::Gigajoules;

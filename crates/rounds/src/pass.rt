@@ -6,32 +6,28 @@ ghost use Rattle.columns.specs.Column.{col};
 ghost use Rattle.sharing.specs.Round.{top, total};
 ghost use Rattle.rounds.specs.Rows.{Rows};
 
-// One pass over the rows at a level: what they are given together, the needs of the rows that are full, the weights of the others.
+// One pass over the rows at a level: what they are given together, and the weights of the rows that stay short.
 pub struct Pass {
-    pub total: u64,
-    pub full: u64,
-    pub short: u64,
+    pub total: u32,
+    pub short: u32,
 }
 
 pub fn pass_at(weights: &[u32], needs: &[u32], level: u64) -> Pass
     requires { ⌜ Rows (now weights) (now needs) × (level ≤ top) ⌝ }
     ensures { λ r. ⌜ r .total ≡ total (length (now (weights .entry))) (col (now (weights .entry))) (col (now (needs .entry))) level ⌝ }
 {
-    let mut total: u64 = 0;
-    let mut full: u64 = 0;
-    let mut short: u64 = 0;
+    let mut total: u32 = 0;
+    let mut short: u32 = 0;
     let mut row = 0;
     while row < weights.len() {
         let weight = weights[row];
         let need = needs[row];
         let share = share_at(weight, need, level);
-        total += share as u64;
+        total += share;
         if share < need {
-            short += weight as u64;
-        } else {
-            full += need as u64;
+            short += weight;
         }
         row += 1;
     }
-    Pass { total, full, short }
+    Pass { total, short }
 }

@@ -10,20 +10,17 @@ use Rattle.rounds.proofs.level.search.Statement.{statement}
 use Rattle.rounds.proofs.level.search.Tie as tie
 
 abbrev Inv-loop : tie.InvT-loop
-Inv-loop capacity weights needs low₀ high₀ passes₀ guess₀ low high passes guess =
+Inv-loop capacity weights needs weight low₀ high₀ passes₀ guess₀ low high passes guess =
     Bracket (length weights) (col weights) (col needs) capacity low high × (passes + (high - low) ≤ top)
 
 abbrev μ-loop : tie.MeasureT-loop
-μ-loop capacity weights needs low₀ high₀ passes₀ guess₀ low high passes guess = high - low
-
-pass-at-requires : tie.Need-pass-at-requires Inv-loop μ-loop
-pass-at-requires c κs = (c .before .before .pre .0, omega arith)
+μ-loop capacity weights needs weight low₀ high₀ passes₀ guess₀ low high passes guess = high - low
 
 raised-requires : tie.Need-raised-requires Inv-loop μ-loop
 raised-requires c κs = search needs
 
 loop-holds : tie.Need-loop-holds Inv-loop μ-loop
-loop-holds c = (bracket-start _ _ _ _ (c .before .before .before .before .pre .1), omega arith)
+loop-holds c = (bracket-start _ _ _ _ (c .before .before .before .pre .1), omega arith)
 
 add-loop : tie.Need-add-loop Inv-loop μ-loop
 add-loop c = search needs
@@ -31,8 +28,8 @@ add-loop c = search needs
 between-requires : tie.Need-between-requires Inv-loop μ-loop
 between-requires c κs = search needs
 
-pass-at-requires-2 : tie.Need-pass-at-requires-2 Inv-loop μ-loop
-pass-at-requires-2 c κs = (c .before .before .before .before .before .before .before .pre .0, omega arith)
+pass-at-requires : tie.Need-pass-at-requires Inv-loop μ-loop
+pass-at-requires c κs = search needs
 
 add-passes : tie.Need-add-passes Inv-loop μ-loop
 add-passes c = search needs
@@ -40,21 +37,27 @@ add-passes c = search needs
 raised-requires-2 : tie.Need-raised-requires-2 Inv-loop μ-loop
 raised-requires-2 c κs = search needs
 
+settled-requires : tie.Need-settled-requires Inv-loop μ-loop
+settled-requires c κs = search needs
+
 loop-less : tie.Need-loop-less Inv-loop μ-loop
 loop-less c = search needs
 
 loop-again : tie.Need-loop-again Inv-loop μ-loop
 loop-again c =
-    let if1 = c .before in
-    let turn = if1 .before .before .before .before in
-    (bracket-up _ _ _ _ (turn .before .loop .inv .0) _ (omega arith) (omega arith), omega arith)
+    let turn = c .before .before .before .before .before .before in
+    let settled = c .settled .ensures in
+    (bracket-up _ _ _ _ (turn .before .loop .inv .0) _ (settled .1) (omega arith), omega arith)
+
+lowered-requires : tie.Need-lowered-requires Inv-loop μ-loop
+lowered-requires c κs = search needs
 
 loop-less-2 : tie.Need-loop-less-2 Inv-loop μ-loop
 loop-less-2 c = search needs
 
 loop-again-2 : tie.Need-loop-again-2 Inv-loop μ-loop
 loop-again-2 c =
-    let turn = c .before .before .before .before in
+    let turn = c .before .before .before .before .before in
     (bracket-down _ _ _ _ (turn .before .loop .inv .0) _ (omega arith) (omega arith) (omega arith), omega arith)
 
 returns : tie.Need-returns Inv-loop μ-loop
@@ -66,16 +69,17 @@ search-spec =
     (tie.spec
     Inv-loop
     μ-loop
-    pass-at-requires
     raised-requires
     loop-holds
     add-loop
     between-requires
-    pass-at-requires-2
+    pass-at-requires
     add-passes
     raised-requires-2
+    settled-requires
     loop-less
     loop-again
+    lowered-requires
     loop-less-2
     loop-again-2
     returns)

@@ -1,26 +1,24 @@
--- The rows that the pass has gone over make the total so far; the other two sums only stay small.
+-- The rows that the pass has gone over make the total so far; the other sum only stays small.
 use mathlib.Core.Logic.{⊎-elim}
 use Prim.Native.Nat.{_*_, _-_, _≤_}
 use native.Mathlib.Omega.{arith}
-use borrow.Author.Needs.{needs}
 use lib.ListN.{length}
 use Rattle.columns.specs.Column.{col}
 use Rattle.columns.proofs.Sums.{Adding, adding-none, adding-next, adding-bound, adding-all}
 use Rattle.sharing.specs.Round.{share}
+use borrow.Author.Needs.{needs}
 use Rattle.rounds.proofs.pass.pass_at.Statement.{statement}
 use Rattle.rounds.proofs.pass.pass_at.Tie as tie
 
 abbrev Inv-loop : tie.InvT-loop
-Inv-loop weights needs level total₀ full₀ short₀ row₀ total full short row =
-    Adding (length weights) (λ i. share (col weights i) (col needs i) level) row total
-    × (full ≤ row * 1_000_000)
-    × (short ≤ row * 1_000_000)
+Inv-loop weights needs level total₀ short₀ row₀ total short row =
+    Adding (length weights) (λ i. share (col weights i) (col needs i) level) row total × (short ≤ row * 1_000_000)
 
 abbrev μ-loop : tie.MeasureT-loop
-μ-loop weights needs level total₀ full₀ short₀ row₀ total full short row = length weights - row
+μ-loop weights needs level total₀ short₀ row₀ total short row = length weights - row
 
 loop-holds : tie.Need-loop-holds Inv-loop μ-loop
-loop-holds c = (adding-none _ _, omega arith, omega arith)
+loop-holds c = (adding-none _ _, omega arith)
 
 mul-weight : tie.Need-mul-weight Inv-loop μ-loop
 mul-weight c = search needs
@@ -40,9 +38,6 @@ share-at-requires c κs =
     let start = turn .before .before .before .before in
     (start .pre .0 .weights (turn .before .loop .row) (turn .loop-test .taken), start .pre .1)
 
-cast-total : tie.Need-cast-total Inv-loop μ-loop
-cast-total c = search needs
-
 add-total : tie.Need-add-total Inv-loop μ-loop
 add-total c =
     let turn = c .before .before .before in
@@ -54,21 +49,10 @@ add-total c =
       rows .needs (now .row) (turn .loop-test .taken),
     )
 
-cast-short : tie.Need-cast-short Inv-loop μ-loop
-cast-short c =
-    let turn = c .before .before .before .before in
-    omega (arith, turn .before .before .before .before .pre .0 .weights (turn .before .loop .row) (turn .loop-test .taken))
-
 add-short : tie.Need-add-short Inv-loop μ-loop
 add-short c =
     let turn = c .before .before .before .before in
     omega (arith, turn .before .before .before .before .pre .0 .weights (turn .before .loop .row) (turn .loop-test .taken))
-
-cast-full : tie.Need-cast-full Inv-loop μ-loop
-cast-full c = search needs
-
-add-full : tie.Need-add-full Inv-loop μ-loop
-add-full c = search needs
 
 add-row : tie.Need-add-row Inv-loop μ-loop
 add-row c = search needs
@@ -79,11 +63,8 @@ loop-less c = search needs
 loop-again : tie.Need-loop-again Inv-loop μ-loop
 loop-again c =
     let turn = c .before .before .before .before in
-    let rows = turn .before .before .before .before .pre .0 in
-    let weight = rows .weights (turn .before .loop .row) (turn .loop-test .taken) in
-    let need = rows .needs (turn .before .loop .row) (turn .loop-test .taken) in (
+    let weight = turn .before .before .before .before .pre .0 .weights (turn .before .loop .row) (turn .loop-test .taken) in (
       adding-next _ _ (turn .before .loop .inv .0) (turn .loop-test .taken) (c .before .share-at .ensures),
-      ⊎-elim (λ w. omega arith) (λ w. omega arith) (c .if1 .came),
       ⊎-elim (λ w. omega arith) (λ w. omega arith) (c .if1 .came),
     )
 
@@ -102,12 +83,8 @@ pass-at-spec =
     mul-need
     shared-slice-read-need
     share-at-requires
-    cast-total
     add-total
-    cast-short
     add-short
-    cast-full
-    add-full
     add-row
     loop-less
     loop-again
