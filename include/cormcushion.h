@@ -2,7 +2,8 @@
  *
  * Every function takes every input that its parameters can hold, returns, and writes to nothing but what is lent to it. What nothing
  * checks is the call itself: a pointer must lead to as many elements as the count behind it says, or as its parameter's brackets say,
- * and what is lent to be written must not overlap anything else that is passed. An empty list may have any pointer.
+ * and what is lent to be written must not overlap anything else that is passed. An empty list may have any pointer. Nor does a proof
+ * speak of the stack: those that take a file use up to about 120 kB of it.
  *
  * The answer is one number in fixed decimal digits: the last fifteen are a figure, the two before them 01's refusal number, those
  * before these a kind, which is 0 today. Where the number is 0 the call is accepted and the figure is its answer; else the call is
