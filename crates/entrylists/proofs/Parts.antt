@@ -1,11 +1,12 @@
--- A sound day's tag 4 fields, parted where side 1 begins: both lists are accepted, and a point's part is its entries' fields.
+-- A sound day's tag 4 fields, parted where side 1 begins: both lists are accepted, and a point's part is the fields of all its entries.
 use mathlib.Core.Path.{_≡_, ap, ap₂, sym, _∙_}
-use mathlib.Core.Bool.{Bool, false, not}
+use mathlib.Core.Bool.{Bool, true, false, not, true≢false}
 use mathlib.Core.List.{List}
 use Prim.Native.Nat.{ℕ, zero, suc, _+_, _-_, _*_, _/_, _≤_, _<_}
 use native.Mathlib.Nat.{zero-add}
+use native.Mathlib.Decide.{decLt}
 use native.Mathlib.Omega.{arith}
-use borrow.Author.Tests.{eq-eqb, ne-eqb}
+use borrow.Author.Tests.{eq-eqb, ne-eqb, eqb-true}
 use lib.Dec.{eqb}
 use lib.ListN.{length, take, drop}
 use Rattle.columns.specs.Column.{col, listed}
@@ -23,12 +24,14 @@ use Rattle.dayformat.proofs.Tables.{length-joined, col-joined}
 use Rattle.daywriter.specs.Written.{fields}
 use Rattle.daywriter.proofs.Accepting.{Sound}
 use Rattle.daywriter.proofs.Sizes.{length-row-field}
-use Rattle.pointentries.specs.Entries.{list-check, is-of, first-entry, many-entries, start-in, long-in}
-use Rattle.pointentries.proofs.EntryLists.{entry-size}
+use Rattle.dayruns.specs.Run.{row-of}
+use Rattle.pointentries.specs.Entries.{entries, list-check, is-of, first-entry, many-entries, start-in, long-in}
+use Rattle.pointentries.proofs.EntryLists.{entry-size, place-is}
+use Rattle.pointentries.proofs.EntryParts.{part-every}
 use Rattle.dayvalues.specs.Row.{number-at}
-use Rattle.entrylists.specs.PointRows.{is-entry, entry-field, point-fields}
+use Rattle.entrylists.specs.PointRows.{is-entry, first-row, many-rows, entry-field, point-fields}
 use Rattle.entrylists.specs.SideLists.{first-delivery, receipt-list, delivery-list, Parted}
-use Rattle.entrylists.proofs.Segments.{segment-alike, joined-front, joined-behind, joined-part}
+use Rattle.entrylists.proofs.Segments.{whole-some, long-some, segment-alike, joined-front, joined-behind, joined-part}
 use Rattle.entrylists.proofs.Sides.{receipts, receipts-inside, receipt-side, delivery-side, side-small}
 use Rattle.entrylists.proofs.SideRuns.{rows-are, list-accepted, point-is}
 
@@ -63,6 +66,12 @@ module _ (day : Day) (numbers : List ℕ) (S : Sound day numbers) where
     asks-point : (i : ℕ) → i < many → is-of list side point i ≡ asks (from + i)
     unfolding is-entry
     asks-point i l = rw (eq-eqb (number (from + i) 0) side (sided i l)) (point-is day numbers S from many side inside sided point i l)
+
+    none-before : (row : ℕ) → row < from → asks row ≡ false
+    none-before row l = asks-not row (other row l)
+
+    none-past : (row : ℕ) → from + many ≤ row → row < all → asks row ≡ false
+    none-past row h l = asks-not row (past row h l)
 
     abbrev start : ℕ
     start = first many (λ i. asks (from + i))
@@ -104,7 +113,53 @@ module _ (day : Day) (numbers : List ℕ) (S : Sound day numbers) where
           ≡ point-fields (day .counts) (col numbers) side point
       part-of-point =
           part-is
-          ∙ segment-alike asks from many all inside (λ row l. asks-not row (other row l)) (λ row h l. asks-not row (past row h l)) field-at
+          ∙ segment-alike asks from many all inside none-before none-past field-at
+
+      -- every entry of the point is among them
+      module _ (row : ℕ) (l : row < all) (marked : asks row ≡ true) where
+        not-before : from ≤ row
+        not-before = by (decLt row from)
+          where
+            by : Dec (row < from) → from ≤ row
+            by (yes k) = absurd (true≢false (sym marked ∙ none-before row k))
+            by (no k) = omega (arith, k)
+
+        not-past : row < from + many
+        not-past = by (decLt row (from + many))
+          where
+            by : Dec (row < from + many) → row < from + many
+            by (yes k) = k
+            by (no k) = absurd (true≢false (sym marked ∙ none-past row (omega (arith, k)) l))
+
+        abbrev near : ℕ
+        near = row - from
+
+        near-inside : near < many
+        near-inside = omega (arith, not-before, not-past)
+
+        near-point : col (row-of (entries list side) near) 1 ≡ point
+        near-point =
+            let at : from + near ≡ row = omega (arith, not-before) in
+            eqb-true _ point (asks-point near near-inside ∙ ap asks at ∙ marked)
+
+        near-part : (start ≤ near) × (near < start + long)
+        near-part =
+            let found = part-every list side point accepted near
+            (omega (arith, near-inside, rows-are day numbers S from many side inside sided))
+            near-point in
+            let first = start-is ∙ ap (λ size. start * size) entry-size in
+            let span = long-is ∙ ap (λ size. long * size) entry-size in (
+              omega (arith, found .0, first, place-is list side near),
+              omega (arith, found .1, first, span, place-is list side near, entry-size),
+            )
+
+        row-among : (first-row (day .counts) (col numbers) side point ≤ row)
+            × (row < first-row (day .counts) (col numbers) side point + many-rows (day .counts) (col numbers) side point)
+        row-among =
+            let some : start < many = omega (arith, near-part .0, near-inside) in
+            let first = whole-some asks from many all inside none-before none-past some in
+            let span = long-some asks from many all inside none-before none-past some in
+            (omega (arith, first, near-part .0, not-before), omega (arith, first, span, near-part .1, not-before))
 
   -- ---- where side 1 begins
   abbrev whole : List ℕ
@@ -158,6 +213,9 @@ module _ (day : Day) (numbers : List ℕ) (S : Sound day numbers) where
               rw receipt-is
               (part-of-point 0 receipt-many 0 inside receipt-sided (λ row l e. omega (arith, l))
               (λ row h l e. omega (arith, e, delivery-side day numbers S row (omega (arith, h)) l)) point accepted);
+          every =
+              row-among 0 receipt-many 0 inside receipt-sided (λ row l e. omega (arith, l))
+              (λ row h l e. omega (arith, e, delivery-side day numbers S row (omega (arith, h)) l)) point accepted;
         }
 
     delivery-parted : Parted (day .counts) (col numbers) whole 1 point
@@ -173,6 +231,10 @@ module _ (day : Day) (numbers : List ℕ) (S : Sound day numbers) where
               (part-of-point receipt-many (all - receipt-many) 1 inside sided
               (λ row l e. omega (arith, e, receipt-side day numbers S row l))
               (λ row h l e. omega (arith, h, l)) point accepted);
+          every =
+              row-among receipt-many (all - receipt-many) 1 inside sided
+              (λ row l e. omega (arith, e, receipt-side day numbers S row l))
+              (λ row h l e. omega (arith, h, l)) point accepted;
         }
 
   pub parted : (side point : ℕ) → side ≤ 1 → 0 < point → Parted (day .counts) (col numbers) whole side point

@@ -70,12 +70,12 @@ module _ (p : ℕ → Bool) (from many all : ℕ) (inside : from + many ≤ all)
 
   -- it has some: they are those of the whole
   module _ (some : start < many) where
-    whole-some : whole-start ≡ from + start
+    pub whole-some : whole-start ≡ from + start
     whole-some =
         first-found p all (from + start) (omega (arith, some, inside)) (λ row l. unmarked start row (omega arith) l)
         (first-marked (λ i. p (from + i)) many some)
 
-    long-some : whole-long ≡ long
+    pub long-some : whole-long ≡ long
     long-some =
         let shifted : whole-long ≡ first (all - (from + start)) (λ more. not (p (from + start + more))) =
         ap (λ row. first (all - row) (λ more. not (p (row + more)))) whole-some in

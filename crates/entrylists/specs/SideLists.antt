@@ -1,7 +1,8 @@
 -- 01, "An hour at a point": a day's tag 4 fields as a receipt list and a delivery list.
 use mathlib.Core.Path.{_≡_}
+use mathlib.Core.Bool.{true}
 use mathlib.Core.List.{List}
-use Prim.Native.Nat.{ℕ, _+_, _*_, _/_}
+use Prim.Native.Nat.{ℕ, _+_, _*_, _/_, _≤_, _<_}
 use lib.Dec.{eqb}
 use lib.ListN.{length, take, drop}
 use Rattle.columns.specs.Column.{col}
@@ -9,9 +10,9 @@ use Rattle.columns.specs.First.{first}
 use Rattle.units.specs.declared.refusal.Check.the-variants.{Accepted}
 use Rattle.dayformat.specs.declared.form.Tag.the-variants.{Head, Shipper, Point, Entry}
 use Rattle.dayformat.specs.declared.layout.Counts.{Counts}
-use Rattle.dayformat.specs.Layout.{run-size}
+use Rattle.dayformat.specs.Layout.{count, run-size}
 use Rattle.pointentries.specs.Entries.{asked, entries-check, part-start, part-long}
-use Rattle.entrylists.specs.PointRows.{point-fields}
+use Rattle.entrylists.specs.PointRows.{is-entry, first-row, many-rows, point-fields}
 
 -- a field has twelve bytes, its side behind the tag and the length
 abbrev pub first-delivery : List ℕ → ℕ
@@ -31,7 +32,7 @@ entries-start counts = run-size counts Head + run-size counts Shipper + run-size
 abbrev pub entry-bytes : Counts → List ℕ → List ℕ
 entry-bytes counts file = take (run-size counts Entry) (drop (entries-start counts) file)
 
--- the list asked for is accepted, and its part for a point is the fields of the day's entries of that point
+-- the list asked for is accepted, its part for a point is the fields of the day's entries of that point, and these are all of them
 pub record Parted (counts : Counts) (numbers : ℕ → ℕ) (list : List ℕ) (side point : ℕ) : Type 0 where
   pub accepted : entries-check (receipt-list list) (delivery-list list) side point ≡ Accepted
   pub part :
@@ -39,3 +40,6 @@ pub record Parted (counts : Counts) (numbers : ℕ → ℕ) (list : List ℕ) (s
       (drop (part-start (receipt-list list) (delivery-list list) side point)
       (asked side (receipt-list list) (delivery-list list)))
       ≡ point-fields counts numbers side point
+  pub every : (row : ℕ) → row < count counts Entry → is-entry counts numbers side point row ≡ true
+      → (first-row counts numbers side point ≤ row)
+      × (row < first-row counts numbers side point + many-rows counts numbers side point)
