@@ -1,5 +1,6 @@
 pub mod Segments
 pub mod Sides
 pub mod SideRuns
+pub mod SideParts
 pub mod Parts
 pub mod FileEntries
