@@ -34,7 +34,8 @@ use Rattle.roundtrip.proofs.WrittenRuns.{Written, row-again, rows-again, run-ag
 use Rattle.pointentries.specs.Entries.{entries, entry-run, entry-rows, unread, entry-walk, list-check, is-of}
 use Rattle.dayvalues.specs.Row.{number-at}
 use Rattle.entrylists.specs.PointRows.{entry-field}
-use Rattle.entrylists.proofs.Sides.{entry-bounded, entry-fits}
+use Rattle.roundtrip.proofs.DayAgain.{row-fits}
+use Rattle.entrylists.proofs.Sides.{entry-bounded}
 
 -- every number of an entry is within its bounds
 bounded-all : (f : ℕ → ℕ) (at : ℕ) → ((place : ℕ) → place < 4 → within (column-in (body Entry) place) (f (at + place)) ≡ true)
@@ -88,7 +89,7 @@ module _ (day : Day) (numbers : List ℕ) (S : Sound day numbers) (from many sid
         is = sym (append-nil list);
         here = refl;
         each = λ i. length-listed _ _;
-        fits = λ i l. entry-fits day numbers S (from + i) (omega (arith, l, inside));
+        fits = λ i l. row-fits day numbers S Entry tt (from + i) (omega (arith, l, inside));
         few = omega (arith, inside, S .few Entry);
         above = tt;
       }

@@ -11,18 +11,14 @@ use lib.Dec.{ltb, eqb}
 use Rattle.columns.specs.Column.{col}
 use Rattle.columns.specs.First.{first}
 use Rattle.columns.proofs.Firsts.{first-le, first-before, first-marked}
-use Rattle.columns.proofs.Lists.{length-listed, col-listed}
-use Rattle.bigendian.specs.Row.{Fit}
 use Rattle.dayformat.specs.declared.day.Day.{Day}
 use Rattle.dayformat.specs.declared.form.Tag.the-variants.{Entry}
-use Rattle.dayformat.specs.Format.{body, column-in, widths}
+use Rattle.dayformat.specs.Format.{body, column-in}
 use Rattle.dayformat.specs.Layout.{count, row-start}
-use Rattle.dayformat.proofs.Small.{spelled}
 use Rattle.dayrows.specs.declared.Source.the-variants.{File}
 use Rattle.dayrows.specs.declared.Test.the-variants as Test
 use Rattle.dayrows.specs.Test.{within, difference, rises, passes}
 use Rattle.dayrows.proofs.Within.{both, passes-bounded, within-bounds}
-use Rattle.daywriter.specs.Written.{row-from}
 use Rattle.daywriter.proofs.Accepting.{Sound}
 use Rattle.dayvalues.specs.Row.{number-at}
 
@@ -61,21 +57,6 @@ module _ (day : Day) (numbers : List ℕ) (S : Sound day numbers) where
   pub side-small : (row : ℕ) → row < many → side row ≤ 1
   unfolding column-in
   side-small row l = within-bounds (column-in (body Entry) 0) (side row) (entry-bounded row l 0 (omega arith)) .1
-
-  -- a row within its bounds can be spelled
-  pub entry-fits : (row : ℕ) → row < many → Fit (widths Entry) (row-from (col numbers) Entry (row-start (day .counts) Entry row))
-  entry-fits row l =
-      record {
-        as-many = length-listed _ _ ∙ sym (length-listed _ _);
-        below = λ place k.
-            let inside : place < 4 = rw length-listed at k in
-            let bound = within-bounds (column-in (body Entry) place) _ (entry-bounded row l place inside) .1 in
-            rw (
-              col-listed 4 (λ place. col numbers (row-start (day .counts) Entry row + place)) place inside,
-              col-listed 4 (λ place. column-in (body Entry) place .width) place inside,
-            )
-            (omega (arith, bound, spelled Entry place));
-      }
 
   next-side : (row : ℕ) → suc row < many → side row ≤ side (suc row)
   unfolding passes rises

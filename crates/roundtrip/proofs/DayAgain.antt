@@ -40,7 +40,7 @@ module _ (day : Day) (numbers : List ℕ) (S : Sound day numbers) where
   row tag i = row-from (col numbers) tag (row-start (day .counts) tag i)
 
   -- a row that is within its bounds can be spelled
-  row-fits : (tag : Tag) → Table tag → (i : ℕ) → i < count (day .counts) tag → Fit (widths tag) (row tag i)
+  pub row-fits : (tag : Tag) → Table tag → (i : ℕ) → i < count (day .counts) tag → Fit (widths tag) (row tag i)
   row-fits tag t i l =
       record {
         as-many = length-listed _ _ ∙ sym (length-listed _ _);
