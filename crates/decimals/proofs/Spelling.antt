@@ -1,5 +1,5 @@
 -- What the first digits of a word spell, up to the first number beyond a bound.
-use mathlib.Core.Path.{_≡_, refl, ap, sym, _∙_}
+use mathlib.Core.Path.{_≡_, refl, sym, _∙_}
 use mathlib.Core.List.{List, [], _∷_}
 use Prim.Native.Nat.{ℕ, zero, suc, _+_, _-_, _*_, _≤_, _<_, min}
 use native.Mathlib.Numerals.{add-one}
@@ -44,7 +44,9 @@ module _ (word : List ℕ) (most : ℕ) where
   pub spelled-more : {number next place : ℕ} → Spelled word most number place → place < length word
       → next ≡ min (number * 10 + (col word place - 48)) (most + 1) → Spelled word most next (place + 1)
   spelled-more {number} {next} {place} S l e =
-      let more : value (take (place + 1) word) ≡ value (take place word) * 10 + (col word place - 48) = rw add-one (value-more 0 word place l) in
+      let more : value (take (place + 1) word) ≡ value (take place word) * 10 + (col word place - 48) =
+      rw add-one (value-more 0 word place l)
+      in
       record {
         inside = omega arith;
         low = omega (arith, e);

@@ -8,7 +8,7 @@ ghost use lib.ListN.{length};
 ghost use Rattle.columns.specs.Column.{col};
 ghost use Rattle.columns.specs.First.{first};
 ghost use Rattle.text.specs.Text.{value};
-ghost use Rattle.decimals.specs.Word.{is-digit, word-check, decimal-of};
+ghost use Rattle.decimals.specs.Word.{is-digit, decimal-of};
 
 // The byte of 0, and that of 9.
 const ZERO: u8 = 48;

@@ -1,5 +1,5 @@
 -- In a sound day's entries the sides never fall: receipts stand before deliveries.
-use mathlib.Core.Path.{_≡_, refl, ap, sym, _∙_}
+use mathlib.Core.Path.{_≡_, refl, ap}
 use mathlib.Core.Logic.{⊎-elim}
 use mathlib.Core.Bool.{true, false, cond, not}
 use mathlib.Core.List.{List}

@@ -10,7 +10,8 @@ use Rattle.decimals.proofs.decimal_of.Tie as tie
 
 found-is : (c : tie.After-keep3)
     → c .keep3 .result
-    ≡ word-check (c .before .before .before .before .before .before .args .word .now) (c .before .before .before .before .before .before .args .most)
+    ≡ word-check (c .before .before .before .before .before .before .args .word .now)
+    (c .before .before .before .before .before .before .args .most)
 unfolding word-check
 found-is c =
     let spelled = c .before .before .before .before in

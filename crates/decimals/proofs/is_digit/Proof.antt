@@ -1,7 +1,6 @@
 -- The two bounds of a digit, tested one after the other.
 use borrow.Author.Tests.{lt-ltb, le-ltb}
 use Rattle.decimals.specs.Word.{is-digit}
-use borrow.Author.Needs.{needs}
 use Rattle.decimals.proofs.is_digit.Statement.{statement}
 use Rattle.decimals.proofs.is_digit.Tie as tie
 

@@ -46,7 +46,8 @@ returns : tie.Need-returns
 returns c =
     let shared = c .before .before .before .before .before .before in
     let start = shared .before .before .before .before .before .before in
-    never-refused (start .args .day) (start .args .numbers .now) (sound-of start) (shared .share-numbers .ensures) _ (c .before .shared .given .1)
+    never-refused (start .args .day) (start .args .numbers .now) (sound-of start) (shared .share-numbers .ensures) _
+    (c .before .shared .given .1)
 
 same-length : tie.Need-same-length
 same-length c = search needs
@@ -58,7 +59,8 @@ returns-2 c =
     let shared = told .before .before .before .before .before .before in
     let start = shared .before .before .before .before .before .before in
     let is =
-    text-is (start .args .day) (start .args .numbers .now) (sound-of start) (shared .share-numbers .ensures) _ (told .before .shared2 .given .1)
+    text-is (start .args .day) (start .args .numbers .now) (sound-of start) (shared .share-numbers .ensures) _
+    (told .before .shared2 .given .1)
     in rw is at (laid .lay-shares .ensures)
 
 pub list-day-spec : {M : Type 1} → statement M

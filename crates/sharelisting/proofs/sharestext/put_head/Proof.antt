@@ -56,7 +56,8 @@ returns c =
     let left = line .before .before .before .before .before in
     let firm = left .before .before .before .before .before in
     let day = firm .before .before .before .before .before in (
-      head-laid _ _ _ (day .put-labelled .ensures .0) (firm .put-labelled2 .ensures .0) (left .put-word .ensures) (line .put-line .ensures .0),
+      head-laid _ _ _ (day .put-labelled .ensures .0) (firm .put-labelled2 .ensures .0) (left .put-word .ensures)
+          (line .put-line .ensures .0),
       omega (
         arith,
         day .put-labelled .ensures .1,
