@@ -1,12 +1,13 @@
 -- Whether a search finds a marked row among n.
-use mathlib.Core.Path.{_≡_}
-use mathlib.Core.Bool.{Bool, true, false}
+use mathlib.Core.Path.{_≡_, sym, _∙_}
+use mathlib.Core.Bool.{Bool, true, false, true≢false}
 use Prim.Native.Nat.{ℕ, _≤_, _<_}
 use lib.Dec.{leb, ltb}
 use borrow.Author.Tests.{lt-ltb, le-ltb, le-leb, lt-leb}
+use native.Mathlib.Decide.{decLt}
 use native.Mathlib.Omega.{arith}
 use Rattle.columns.specs.First.{first}
-use Rattle.columns.proofs.Firsts.{Searched, stops, ends}
+use Rattle.columns.proofs.Firsts.{Searched, first-passed, stops, ends}
 
 module _ (p : ℕ → Bool) (n row : ℕ) (S : Searched p n row) where
   pub found : row < n → p row ≡ true → ltb (first n p) n ≡ true
@@ -20,3 +21,11 @@ module _ (p : ℕ → Bool) (n row : ℕ) (S : Searched p n row) where
 
   pub clear : n ≤ row → leb n (first n p) ≡ true
   clear l = le-leb n (first n p) (omega (arith, ends p n row S l))
+
+-- any marked row is a witness
+pub witnessed : (p : ℕ → Bool) (n row : ℕ) → row < n → p row ≡ true → ltb (first n p) n ≡ true
+witnessed p n row l e = by (decLt (first n p) n)
+  where
+    by : Dec (first n p < n) → ltb (first n p) n ≡ true
+    by (yes h) = lt-ltb (first n p) n h
+    by (no h) = absurd (true≢false (sym e ∙ first-passed p n (omega (arith, h)) row l))

@@ -6,9 +6,13 @@ use dayformat::count_of;
 use dayformat::form_of;
 use dayformat::row_place;
 ghost use mathlib.Core.Path.{_≡_};
+ghost use mathlib.Core.Bool.{true};
 ghost use Prim.Native.Nat.{_^_, _≤_, _<_};
 ghost use Rattle.columns.specs.Column.{col};
 ghost use Rattle.dayrows.specs.Test.{difference, rises, lists, named};
+
+// Sides and names are below it.
+const NAMES: usize = 65_536;
 
 // The first of so many numbers in which those from one place on differ from those from another.
 fn first_difference(numbers: &[usize], many: usize, one: usize, other: usize) -> usize
@@ -42,8 +46,61 @@ pub fn rises(counts: Counts, numbers: &[usize], tag: Tag, row: u32) -> bool
     false
 }
 
-// Whether some row of the tag has the key that stands at a place.
-fn lists(counts: Counts, numbers: &[usize], tag: Tag, at: usize) -> bool
+// A key as one number that grows with it, where its numbers are within their bounds.
+fn key_number(numbers: &[usize], tag: Tag, at: usize) -> usize
+    requires { ⌜ at < 2 ^ 41 ⌝ }
+{
+    let key = form_of(tag).key;
+    let mut number = 0;
+    let mut place = 0;
+    while place < key {
+        number = number % NAMES * NAMES + number_of(numbers, at + place) % NAMES;
+        place += 1;
+    }
+    number
+}
+
+// The later of two rows unless its key is above a number.
+fn nearer_row(counts: Counts, numbers: &[usize], tag: Tag, row: u32, later: u32, key: usize) -> u32
+    requires { ⌜ row ≤ later ⌝ }
+    ensures { λ r. ⌜ r ≤ later ⌝ }
+{
+    if key < key_number(numbers, tag, row_place(counts, tag, later)) {
+        return row;
+    }
+    later
+}
+
+// The row that has the key at a place, found by halving where keys rise. The answer is only tried, so nothing is proved of it.
+fn likely_row(counts: Counts, numbers: &[usize], tag: Tag, at: usize) -> u32
+    requires { ⌜ at < 2 ^ 41 ⌝ }
+{
+    let key = key_number(numbers, tag, at);
+    let mut row = 0;
+    let mut rows = count_of(counts, tag);
+    while 1 < rows {
+        let half = rows / 2;
+        row = nearer_row(counts, numbers, tag, row, row + half, key);
+        rows -= half;
+    }
+    row
+}
+
+// Whether the likely row has the key that stands at a place.
+fn likely_row_has(counts: Counts, numbers: &[usize], tag: Tag, at: usize) -> bool
+    requires { ⌜ at < 2 ^ 41 ⌝ }
+    ensures { λ r. ⌜ (r ≡ true → lists counts (col (now (numbers .entry))) tag at ≡ true) ⌝ }
+{
+    let key = form_of(tag).key;
+    let row = likely_row(counts, numbers, tag, at);
+    if count_of(counts, tag) <= row {
+        return false;
+    }
+    key <= first_difference(numbers, key, row_place(counts, tag, row), at)
+}
+
+// Whether some row has it, looked for in all.
+fn some_row_has(counts: Counts, numbers: &[usize], tag: Tag, at: usize) -> bool
     requires { ⌜ at < 2 ^ 41 ⌝ }
     ensures { λ r. ⌜ r ≡ lists counts (col (now (numbers .entry))) tag at ⌝ }
 {
@@ -57,6 +114,17 @@ fn lists(counts: Counts, numbers: &[usize], tag: Tag, at: usize) -> bool
         row += 1;
     }
     false
+}
+
+// Whether some row of the tag has the key that stands at a place. In a sound day the likely one has.
+fn lists(counts: Counts, numbers: &[usize], tag: Tag, at: usize) -> bool
+    requires { ⌜ at < 2 ^ 41 ⌝ }
+    ensures { λ r. ⌜ r ≡ lists counts (col (now (numbers .entry))) tag at ⌝ }
+{
+    if likely_row_has(counts, numbers, tag, at) {
+        return true;
+    }
+    some_row_has(counts, numbers, tag, at)
 }
 
 // Whether the row that begins at a place names only shippers and points that are listed.
