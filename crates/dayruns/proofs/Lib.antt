@@ -5,4 +5,5 @@ pub mod Fronts
 pub mod RowReading
 pub mod Running
 pub mod Runs
+pub mod Stretches
 pub mod Taking

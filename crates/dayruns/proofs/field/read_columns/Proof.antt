@@ -6,8 +6,8 @@ use Rattle.dayformat.proofs.Small.{small, narrow}
 use Prim.Native.Nat.{_+_, _-_, _*_, _≤_, _<_}
 use Rattle.dayruns.proofs.RowReading.{Reads, reads-none, reads-next, reads-all}
 use borrow.Author.Needs.{needs}
-use Rattle.dayruns.proofs.field.read_row.Statement.{statement}
-use Rattle.dayruns.proofs.field.read_row.Tie as tie
+use Rattle.dayruns.proofs.field.read_columns.Statement.{statement}
+use Rattle.dayruns.proofs.field.read_columns.Tie as tie
 
 abbrev Inv-loop : tie.InvT-loop
 Inv-loop file tag at numbers₀ to columns place₀ byte₀ numbers place byte =
@@ -100,8 +100,8 @@ returns c =
     (now .loop .inv .0)
     (omega (arith, c .loop-test .left, ap (λ form. form .columns) (now .before .form-of .ensures)))
 
-pub read-row-spec : {M : Type 1} → statement M
-read-row-spec =
+pub read-columns-spec : {M : Type 1} → statement M
+read-columns-spec =
     tie.close
     (tie.spec
     Inv-loop
