@@ -1,7 +1,8 @@
 use crate::guess::between;
+use crate::guess::is_between;
 use crate::guess::lowered;
 use crate::guess::raised;
-use crate::pass::Pass;
+use crate::guess::step;
 use crate::pass::pass_at;
 use crate::share::TOP;
 use crate::unchanged::last_unchanged;
@@ -33,36 +34,40 @@ fn search(capacity: u32, weights: &[u32], needs: &[u32], weight: u32) -> u64
 {
     let mut low: u64 = 0;
     let mut high = TOP;
+    let mut given: u32 = 0;
     let mut passes: u64 = 0;
-    // at level 0 nothing is given, and at most all the rows are short
-    let start = Pass {
-        total: 0,
-        short: weight,
-    };
-    let mut guess = raised(capacity, 0, start);
+    let mut guess = step(capacity, weight);
     while low + 1 < high {
         let level = between(low, guess, high, passes);
         let pass = pass_at(weights, needs, level);
         passes += 1;
         if pass.total <= capacity {
-            guess = raised(capacity, level, pass);
+            guess = raised(capacity, given, level, pass);
+            given = pass.total;
             low = settled(weights, needs, level, guess, high);
         } else {
             high = level;
             guess = lowered(capacity, level, pass);
+            low = settled(weights, needs, low, guess, high);
         }
     }
     low
 }
 
-// A level that fits, and where the guess above it is too high the last one that gives no row more.
+// So few levels are sooner tried one by one.
+const FEW: u64 = 3;
+
+// A level that fits; where the guess is not between it and `high`, the last one that gives no row more.
 fn settled(weights: &[u32], needs: &[u32], level: u64, guess: u64, high: u64) -> u64
     requires { ⌜ Rows (now weights) (now needs) × (level < high) × (high ≤ top) ⌝ }
     ensures { λ r. ⌜ (level ≤ r) × (r < high)
         × (total (length (now (weights .entry))) (col (now (weights .entry))) (col (now (needs .entry))) r
         ≤ total (length (now (weights .entry))) (col (now (weights .entry))) (col (now (needs .entry))) level) ⌝ }
 {
-    if guess < high {
+    if is_between(level, guess, high) {
+        return level;
+    }
+    if high - level <= FEW {
         return level;
     }
     last_unchanged(weights, needs, level, high)

@@ -10,14 +10,14 @@ use Rattle.rounds.proofs.level.search.Statement.{statement}
 use Rattle.rounds.proofs.level.search.Tie as tie
 
 abbrev Inv-loop : tie.InvT-loop
-Inv-loop capacity weights needs weight low₀ high₀ passes₀ guess₀ low high passes guess =
+Inv-loop capacity weights needs weight low₀ high₀ given₀ passes₀ guess₀ low high given passes guess =
     Bracket (length weights) (col weights) (col needs) capacity low high × (passes + (high - low) ≤ top)
 
 abbrev μ-loop : tie.MeasureT-loop
-μ-loop capacity weights needs weight low₀ high₀ passes₀ guess₀ low high passes guess = high - low
+μ-loop capacity weights needs weight low₀ high₀ given₀ passes₀ guess₀ low high given passes guess = high - low
 
-raised-requires : tie.Need-raised-requires Inv-loop μ-loop
-raised-requires c κs = search needs
+step-requires : tie.Need-step-requires Inv-loop μ-loop
+step-requires c κs = search needs
 
 loop-holds : tie.Need-loop-holds Inv-loop μ-loop
 loop-holds c = (bracket-start _ _ _ _ (c .before .before .before .pre .1), omega arith)
@@ -34,8 +34,8 @@ pass-at-requires c κs = search needs
 add-passes : tie.Need-add-passes Inv-loop μ-loop
 add-passes c = search needs
 
-raised-requires-2 : tie.Need-raised-requires-2 Inv-loop μ-loop
-raised-requires-2 c κs = search needs
+raised-requires : tie.Need-raised-requires Inv-loop μ-loop
+raised-requires c κs = search needs
 
 settled-requires : tie.Need-settled-requires Inv-loop μ-loop
 settled-requires c κs = search needs
@@ -46,19 +46,23 @@ loop-less c = search needs
 loop-again : tie.Need-loop-again Inv-loop μ-loop
 loop-again c =
     let turn = c .before .before .before .before .before .before in
-    let settled = c .settled .ensures in
-    (bracket-up _ _ _ _ (turn .before .loop .inv .0) _ (settled .1) (omega arith), omega arith)
+    (bracket-up _ _ _ _ (turn .before .loop .inv .0) _ (c .settled .ensures .1) (omega arith), omega arith)
 
 lowered-requires : tie.Need-lowered-requires Inv-loop μ-loop
 lowered-requires c κs = search needs
+
+settled-requires-2 : tie.Need-settled-requires-2 Inv-loop μ-loop
+settled-requires-2 c κs = search needs
 
 loop-less-2 : tie.Need-loop-less-2 Inv-loop μ-loop
 loop-less-2 c = search needs
 
 loop-again-2 : tie.Need-loop-again-2 Inv-loop μ-loop
 loop-again-2 c =
-    let turn = c .before .before .before .before .before in
-    (bracket-down _ _ _ _ (turn .before .loop .inv .0) _ (omega arith) (omega arith) (omega arith), omega arith)
+    let chosen = c .before .before .before .before .before in
+    let level = chosen .between .result in
+    let down = bracket-down _ _ _ _ (chosen .before .before .loop .inv .0) level (omega arith) (omega arith) (omega arith) in
+    (bracket-up _ _ _ _ down _ (c .settled2 .ensures .1) (omega (arith, down .fits)), omega arith)
 
 returns : tie.Need-returns Inv-loop μ-loop
 returns c = bracket-level _ _ _ _ (c .before .loop .inv .0) (c .loop-test .left)
@@ -69,17 +73,18 @@ search-spec =
     (tie.spec
     Inv-loop
     μ-loop
-    raised-requires
+    step-requires
     loop-holds
     add-loop
     between-requires
     pass-at-requires
     add-passes
-    raised-requires-2
+    raised-requires
     settled-requires
     loop-less
     loop-again
     lowered-requires
+    settled-requires-2
     loop-less-2
     loop-again-2
     returns)
