@@ -3,9 +3,9 @@
 use mathlib.Core.Path.{_≡_, ap}
 use mathlib.Core.Logic.{⊎-elim}
 use Prim.Native.Nat.{ℕ, _+_, _*_, _-_, _/_, _≤_, _<_}
-use native.Mathlib.Nat.{eq-zero-or-pos, div-mul-le-self, le-div-iff-mul-le, lt-of-mul-lt-mul-right, eq-or-lt-of-le, le-of-suc-le-suc}
-use native.Mathlib.Numerals.{add-one}
+use native.Mathlib.Nat.{eq-zero-or-pos, div-mul-le-self, le-div-iff-mul-le, lt-of-mul-lt-mul-right}
 use native.Mathlib.Omega.{arith}
+use borrow.Author.Count.{below-more}
 use Rattle.columns.proofs.Sums.{sum-mono}
 use Rattle.sharing.specs.Round.{share, total}
 use Rattle.sharing.proofs.Levels.{share-mono}
@@ -43,12 +43,14 @@ module _ (n : ℕ) (w q : ℕ → ℕ) (low high : ℕ) where
     pub lasting-next : (next : ℕ) → row < n → low ≤ next → next ≤ last
         → share (w row) (q row) next ≤ share (w row) (q row) low → Lasting n w q low high (row + 1) next
     lasting-next next l from down stays =
-        record { inside = omega arith; from = from; below = omega (arith, L .below); same = same }
-      where
-        same : (i : ℕ) → i < row + 1 → share (w i) (q i) next ≤ share (w i) (q i) low
-        same i k =
-            ⊎-elim (λ e. omega (arith, stays, ap (λ j. share (w j) (q j) next) e, ap (λ j. share (w j) (q j) low) e))
-            (λ h. omega (arith, share-mono (w i) (q i) down, L .same i h)) (eq-or-lt-of-le (le-of-suc-le-suc (rw add-one at k)))
+        record {
+          inside = omega arith;
+          from = from;
+          below = omega (arith, L .below);
+          same =
+              below-more (λ i. share (w i) (q i) next ≤ share (w i) (q i) low) row
+              (λ i h. omega (arith, share-mono (w i) (q i) down, L .same i h)) stays;
+        }
 
     pub lasting-all : n ≤ row → total n w q last ≤ total n w q low
     lasting-all h = sum-mono n _ _ (λ i l. L .same i (omega arith))
