@@ -2,16 +2,17 @@
 use mathlib.Core.Path.{_≡_, ap, _∙_}
 use mathlib.Core.List.{List}
 use Prim.Native.Nat.{ℕ, _+_, _-_, _*_, _^_, _≤_, _<_}
+use native.Mathlib.Nat.{le-antisymm}
 use native.Mathlib.Omega.{arith}
 use lib.ListN.{length, take, drop, length-take, length-drop}
 use lib.Seq.{getD-take, getD-drop}
 use Rattle.columns.specs.Column.{col}
 use Rattle.columns.specs.Sum.{sum}
-use Rattle.columns.proofs.Sums.{sum-cong, sum-bound, Adding, adding-next, adding-all}
+use Rattle.columns.proofs.Sums.{sum-cong, sum-bound, Adding, adding-next}
 use Rattle.units.specs.Bound.{most-hour}
 use Rattle.metered.specs.Hours.{Within}
 use Rattle.metered.proofs.Accepting.{every-hour}
-use Rattle.overruns.specs.TwelveHourly.{period-gas, period-limit, period-excess, twelve-hourly}
+use Rattle.overruns.specs.TwelveHourly.{period-gas, period-limit, period-excess, excesses-before}
 use Rattle.overruns.proofs.Excesses.{adding-fits}
 
 -- the part of the 35 hours that ends with hour h
@@ -45,6 +46,12 @@ module _ (p m : ℕ) (hours : List ℕ) where
   abbrev pub Added : ℕ → ℕ → Type 0
   Added h total = Adding 24 following (h - 1) total
 
+  pub given-before : {h total : ℕ} → h ≤ 25 → total ≡ excesses-before p m (col hours) h → Added h total
+  given-before l e = record { inside = omega arith; adds = e }
+
+  pub added-before : (to : ℕ) {h total : ℕ} → Added h total → h ≤ to → to ≤ h → total ≡ excesses-before p m (col hours) to
+  added-before to A l k = A .adds ∙ ap (λ h. excesses-before p m (col hours) h) (le-antisymm l k)
+
   pub one-more : (h : ℕ) {total gas limit over : ℕ} → 1 ≤ h → h ≤ 24 → Added h total → gas ≡ period-gas (col hours) h
       → limit ≡ period-limit p m h → over ≡ gas - limit → Added (h + 1) (total + over)
   one-more h {over = over} from to A g l o =
@@ -52,9 +59,6 @@ module _ (p m : ℕ) (hours : List ℕ) where
       let next : h - 1 + 1 ≡ h + 1 - 1 = omega arith in
       let adds : over ≡ following (h - 1) = rw this (o ∙ rw (g, l)) in
       rw next at (adding-next 24 following A (omega arith) adds)
-
-  pub all-periods : (h : ℕ) {total : ℕ} → Added h total → 24 < h → total ≡ twelve-hourly p m (col hours)
-  all-periods h A l = adding-all 24 following A (omega arith)
 
   module _ (low : Within hours) where
     period-most : (before : ℕ) → following before ≤ 12 * most-hour

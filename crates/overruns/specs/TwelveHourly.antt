@@ -25,6 +25,10 @@ period-gas hours h = sum 12 (λ k. hours (h - 1 + k))
 abbrev pub period-excess : ℕ → ℕ → (ℕ → ℕ) → ℕ → ℕ
 period-excess p m hours h = period-gas hours h - period-limit p m h
 
+-- the excesses of the periods that end before hour h
+abbrev pub excesses-before : ℕ → ℕ → (ℕ → ℕ) → ℕ → ℕ
+excesses-before p m hours h = sum (h - 1) (λ before. period-excess p m hours (before + 1))
+
 -- the sum of the 24 excesses, h from 1 to 24
 abbrev pub twelve-hourly : ℕ → ℕ → (ℕ → ℕ) → ℕ
 twelve-hourly p m hours = sum 24 (λ before. period-excess p m hours (before + 1))

@@ -8,10 +8,11 @@ use units::Gigajoules;
 use units::MOST_HOUR;
 use units::Megajoules;
 ghost use mathlib.Core.Path.{_≡_};
+ghost use Prim.Native.Nat.{_≤_};
 ghost use lib.ListN.{length};
 ghost use Rattle.columns.specs.Column.{col};
 ghost use Rattle.metered.specs.Hours.{Within};
-ghost use Rattle.overruns.specs.TwelveHourly.{period-limit, twelve-hourly, twelve-hourly-answer};
+ghost use Rattle.overruns.specs.TwelveHourly.{period-limit, excesses-before, twelve-hourly, twelve-hourly-answer};
 
 // The limit of the period that ends with hour h of today, whose first 12 − h hours are yesterday's.
 fn period_limit(p: Gigajoules, m: Gigajoules, h: u64) -> Megajoules
@@ -25,18 +26,37 @@ fn period_limit(p: Gigajoules, m: Gigajoules, h: u64) -> Megajoules
     Megajoules(yesterday.0 + today.0)
 }
 
-// The sum of the excesses of the 24 periods, each of which ends with an hour of today.
-pub fn twelve_hourly(p: Gigajoules, m: Gigajoules, hours: &[u64]) -> Megajoules
+// The excesses of the periods that end before hour `to` of today, given those of the periods that end before hour `from`.
+fn add_periods(
+    before: Megajoules,
+    p: Gigajoules,
+    m: Gigajoules,
+    hours: &[u64],
+    from: usize,
+    to: usize,
+) -> Megajoules
     requires { ⌜ (length (now hours) ≡ 35) × Within (now hours) ⌝ }
-    ensures { λ r. ⌜ r .0 ≡ twelve-hourly (p .0) (m .0) (col (now (hours .entry))) ⌝ }
+    requires { ⌜ (1 ≤ from) × (from ≤ to) × (to ≤ 25) ⌝ }
+    requires { ⌜ before .0 ≡ excesses-before (p .0) (m .0) (col (now hours)) from ⌝ }
+    ensures { λ r. ⌜ r .0 ≡ excesses-before (p .0) (m .0) (col (now (hours .entry))) to ⌝ }
 {
-    let mut total = 0;
-    for h in 1..=24usize {
+    let mut total = before.0;
+    for h in from..to {
         let delivered = gas_of(&hours[h - 1..h + 11]);
         let over = excess(delivered, period_limit(p, m, h as u64));
         total += over.0;
     }
     Megajoules(total)
+}
+
+// The sum of the excesses of the 24 periods, each of which ends with an hour of today. Those that began yesterday are added apart:
+// from hour 12 on there is one limit, worked out once.
+pub fn twelve_hourly(p: Gigajoules, m: Gigajoules, hours: &[u64]) -> Megajoules
+    requires { ⌜ (length (now hours) ≡ 35) × Within (now hours) ⌝ }
+    ensures { λ r. ⌜ r .0 ≡ twelve-hourly (p .0) (m .0) (col (now (hours .entry))) ⌝ }
+{
+    let began_yesterday = add_periods(Megajoules(0), p, m, hours, 1, 12);
+    add_periods(began_yesterday, p, m, hours, 12, 25)
 }
 
 // The twelve-hourly overrun from P and M, yesterday's and today's Adjusted MDQ, and 35 delivered hours, yesterday's 11 first.

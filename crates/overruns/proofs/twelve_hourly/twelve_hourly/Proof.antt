@@ -1,107 +1,19 @@
--- Period by period the excess is added.
-use Prim.Native.Nat.{_+_, _≤_, _-_}
+-- The periods that began yesterday are followed by the others.
+use mathlib.Core.Path.{sym}
+use native.Mathlib.Omega.{arith}
 use borrow.Author.Needs.{needs}
-use Rattle.columns.proofs.Sums.{adding-none}
-use Rattle.overruns.proofs.Periods.{part-few, part-gas, part-within, Added, one-more, periods-fit, all-periods}
+use Rattle.columns.proofs.Sums.{sum-none}
 use Rattle.overruns.proofs.twelve_hourly.twelve_hourly.Statement.{statement}
 use Rattle.overruns.proofs.twelve_hourly.twelve_hourly.Tie as tie
 
-abbrev Inv-loop : tie.InvT-loop
-Inv-loop p m hours total₀ h₀ total h = (1 ≤ h) × Added (p .0) (m .0) hours h total
+add-periods-requires : tie.Need-add-periods-requires
+add-periods-requires c κs = (c .before .pre, ((omega arith, omega arith, omega arith), sym (sum-none _)))
 
-abbrev μ-loop : tie.MeasureT-loop
-μ-loop p m hours total₀ h₀ total h = 25 - h
+add-periods-requires-2 : tie.Need-add-periods-requires-2
+add-periods-requires-2 c κs = search needs
 
--- a turn adds the period's excess
-turn : (c : tie.After-excess Inv-loop μ-loop)
-    → let turns = c .before .before .before .before .before in
-    let args = turns .before .before .args in
-    Added (args .p .0) (args .m .0) (args .hours .now) (turns .loop .h + 1) (turns .loop .total + c .excess .result .0)
-turn c =
-    let summed = c .before .before in
-    let test = summed .before .before in
-    let turns = test .before in
-    let start = turns .before .before in
-    let args = start .args in
-    let from = turns .loop .inv .0 in
-    let to = test .loop-test .taken in
-    one-more (args .p .0) (args .m .0) (args .hours .now) (turns .loop .h) from to (turns .loop .inv .1)
-    (part-gas (args .hours .now) (turns .loop .h) (start .pre .0) from to (summed .gas-of .ensures))
-    (c .before .period-limit .ensures) (c .excess .ensures)
-
-loop-holds : tie.Need-loop-holds Inv-loop μ-loop
-loop-holds c = (search needs, adding-none _ _)
-
-sub-gas-of : tie.Need-sub-gas-of Inv-loop μ-loop
-sub-gas-of c = search needs
-
-add-gas-of : tie.Need-add-gas-of Inv-loop μ-loop
-add-gas-of c = search needs
-
-mul-gas-of : tie.Need-mul-gas-of Inv-loop μ-loop
-mul-gas-of c = search needs
-
-sub-gas-of-2 : tie.Need-sub-gas-of-2 Inv-loop μ-loop
-sub-gas-of-2 c = search needs
-
-part-gas-of-start : tie.Need-part-gas-of-start Inv-loop μ-loop
-part-gas-of-start c = search needs
-
-part-gas-of-end : tie.Need-part-gas-of-end Inv-loop μ-loop
-part-gas-of-end c = search needs
-
-gas-of-requires : tie.Need-gas-of-requires Inv-loop μ-loop
-gas-of-requires c κs =
-    let turns = c .before .before in
-    let pre = turns .before .before .pre in
-    let from = turns .loop .inv .0 in
-    let to = c .before .loop-test .taken in
-    (part-few _ _ (pre .0) from to, part-within _ _ (pre .0) from to (pre .1))
-
-period-limit-requires : tie.Need-period-limit-requires Inv-loop μ-loop
-period-limit-requires c κs = search needs
-
-excess-requires : tie.Need-excess-requires Inv-loop μ-loop
-excess-requires c κs = search needs
-
-add-total : tie.Need-add-total Inv-loop μ-loop
-add-total c =
-    let start = c .before .before .before .before .before .before .before .before in
-    let args = start .args in
-    record { fits = periods-fit (args .p .0) (args .m .0) (args .hours .now) (start .pre .1) (turn (c .before)) }
-
-add-h : tie.Need-add-h Inv-loop μ-loop
-add-h c = search needs
-
-loop-less : tie.Need-loop-less Inv-loop μ-loop
-loop-less c = search needs
-
-loop-again : tie.Need-loop-again Inv-loop μ-loop
-loop-again c = (search needs, turn (c .before))
-
-returns : tie.Need-returns Inv-loop μ-loop
-returns c =
-    let args = c .before .before .before .args in
-    all-periods (args .p .0) (args .m .0) (args .hours .now) _ (c .before .loop .inv .1) (c .loop-test .left)
+returns : tie.Need-returns
+returns c = search needs
 
 pub twelve-hourly-spec : {M : Type 1} → statement M
-twelve-hourly-spec =
-    tie.close
-    (tie.spec
-    Inv-loop
-    μ-loop
-    loop-holds
-    sub-gas-of
-    add-gas-of
-    mul-gas-of
-    sub-gas-of-2
-    part-gas-of-start
-    part-gas-of-end
-    gas-of-requires
-    period-limit-requires
-    excess-requires
-    add-total
-    add-h
-    loop-less
-    loop-again
-    returns)
+twelve-hourly-spec = tie.close (tie.spec add-periods-requires add-periods-requires-2 returns)
