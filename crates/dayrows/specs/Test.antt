@@ -1,7 +1,11 @@
 -- 01, "The day file" and "Refusal numbers": the tests of a row among a day's numbers, for a file and for the writer alike.
+use mathlib.Core.Path.{_≡_}
 use mathlib.Core.Bool.{Bool, true, false, cond, not}
-use Prim.Native.Nat.{ℕ, zero, suc, _+_}
+use mathlib.Core.List.{List}
+use Prim.Native.Nat.{ℕ, zero, suc, _+_, _≤_, _<_}
 use lib.Dec.{leb, ltb, eqb}
+use lib.ListN.{length}
+use Rattle.columns.specs.Column.{col}
 use Rattle.columns.specs.First.{first}
 use Rattle.daytable.specs.Acceptance.{idle}
 use Rattle.dayformat.specs.declared.form.Tag.{Tag}
@@ -24,6 +28,16 @@ within column number = cond (leb (column .low) number) (leb number (column .high
 unfoldable pub bounded : (ℕ → ℕ) → Tag → ℕ → Bool
 bounded numbers tag at =
     leb (form tag .columns) (first (form tag .columns) (λ place. not (within (column-in (body tag) place) (numbers (at + place)))))
+
+-- every number of a part is within the bounds of one column
+unfoldable pub all-within : Column → List ℕ → Bool
+all-within column part = leb (length part) (first (length part) (λ place. not (within column (col part place))))
+
+-- the numbers of a row from a place up to another are of one kind
+pub record OneKind (tag : Tag) (place end : ℕ) : Type 0 where
+  pub some : place < end
+  pub inside : end ≤ form tag .columns
+  pub same : (other : ℕ) → place ≤ other → other < end → column-in (body tag) other ≡ column-in (body tag) place
 
 -- in a list of one side's entries, an entry of the other side is beyond its bound
 abbrev pub of-side : Source → ℕ → Bool

@@ -1,11 +1,14 @@
 // 3: a number beyond its bound.
+use dayformat::Column;
 use dayformat::Tag;
 use dayformat::column_at;
 use dayformat::form_of;
 ghost use mathlib.Core.Path.{_≡_};
-ghost use Prim.Native.Nat.{_^_, _<_};
+ghost use Prim.Native.Nat.{_+_, _^_, _≤_, _<_};
+ghost use lib.ListN.{length};
 ghost use Rattle.columns.specs.Column.{col};
-ghost use Rattle.dayrows.specs.Test.{bounded};
+ghost use Rattle.dayformat.specs.Format.{form};
+ghost use Rattle.dayrows.specs.Test.{all-within, OneKind, bounded};
 
 // The number at a place, 0 past the list.
 pub fn number_of(numbers: &[usize], at: usize) -> usize
@@ -17,8 +20,8 @@ pub fn number_of(numbers: &[usize], at: usize) -> usize
     numbers[at]
 }
 
-// Whether every number of the row that begins at a place is within its bounds.
-pub fn is_bounded(numbers: &[usize], tag: Tag, at: usize) -> bool
+// Whether every number of a row is within its bounds, where numbers past the end of the list count as zero.
+fn columns_are_bounded(numbers: &[usize], tag: Tag, at: usize) -> bool
     requires { ⌜ at < 2 ^ 40 ⌝ }
     ensures { λ r. ⌜ r ≡ bounded (col (now (numbers .entry))) tag at ⌝ }
 {
@@ -36,4 +39,68 @@ pub fn is_bounded(numbers: &[usize], tag: Tag, at: usize) -> bool
         place += 1;
     }
     true
+}
+
+// Whether every number of a part is within the bounds of one column.
+fn are_within(part: &[usize], column: Column) -> bool
+    ensures { λ r. ⌜ r ≡ all-within column (now (part .entry)) ⌝ }
+{
+    let low = column.low;
+    let high = column.high;
+    for place in 0..part.len() {
+        if part[place] < low {
+            return false;
+        }
+        if high < part[place] {
+            return false;
+        }
+    }
+    true
+}
+
+// Where a row's numbers of one kind end that begin at a place; a meter's hours, its most, are taken together.
+fn kind_end(tag: Tag, place: usize) -> usize
+    requires { ⌜ place < form tag .columns ⌝ }
+    ensures { λ r. ⌜ OneKind tag place r ⌝ }
+{
+    match tag {
+        Tag::Head => place + 1,
+        Tag::Shipper => place + 1,
+        Tag::Point => place + 1,
+        Tag::Entry => place + 1,
+        Tag::Meter => {
+            if place == 3 {
+                return 62;
+            }
+            place + 1
+        }
+    }
+}
+
+// Whether the numbers of a row that the list has whole are within their bounds, kind by kind.
+fn kinds_are_bounded(numbers: &[usize], tag: Tag, at: usize) -> bool
+    requires { ⌜ at + form tag .columns ≤ length (now numbers) ⌝ }
+    ensures { λ r. ⌜ r ≡ bounded (col (now (numbers .entry))) tag at ⌝ }
+{
+    let columns = form_of(tag).columns;
+    let mut place = 0;
+    while place < columns {
+        let end = kind_end(tag, place);
+        if !are_within(&numbers[at + place..at + end], column_at(tag, place)) {
+            return false;
+        }
+        place = end;
+    }
+    true
+}
+
+// Whether every number of the row that begins at a place is within its bounds.
+pub fn is_bounded(numbers: &[usize], tag: Tag, at: usize) -> bool
+    requires { ⌜ at < 2 ^ 40 ⌝ }
+    ensures { λ r. ⌜ r ≡ bounded (col (now (numbers .entry))) tag at ⌝ }
+{
+    if numbers.len() < at + form_of(tag).columns {
+        return columns_are_bounded(numbers, tag, at);
+    }
+    kinds_are_bounded(numbers, tag, at)
 }

@@ -46,26 +46,23 @@ pub fn rises(counts: Counts, numbers: &[usize], tag: Tag, row: u32) -> bool
     false
 }
 
-// A key as one number that grows with it, where its numbers are within their bounds.
-fn key_number(numbers: &[usize], tag: Tag, at: usize) -> usize
+// A shipper's or a point's key as one number that grows with it, where its numbers are within their bounds.
+fn key_number(numbers: &[usize], key: usize, at: usize) -> usize
     requires { ⌜ at < 2 ^ 41 ⌝ }
 {
-    let key = form_of(tag).key;
-    let mut number = 0;
-    let mut place = 0;
-    while place < key {
-        number = number % NAMES * NAMES + number_of(numbers, at + place) % NAMES;
-        place += 1;
+    let first = number_of(numbers, at) % NAMES;
+    if key == 1 {
+        return first;
     }
-    number
+    first * NAMES + number_of(numbers, at + 1) % NAMES
 }
 
-// The later of two rows unless its key is above a number.
-fn nearer_row(counts: Counts, numbers: &[usize], tag: Tag, row: u32, later: u32, key: usize) -> u32
+// The later of two rows, unless its key is above the one that is looked for.
+fn nearer_row(row: u32, later: u32, key: usize, later_key: usize) -> u32
     requires { ⌜ row ≤ later ⌝ }
     ensures { λ r. ⌜ r ≤ later ⌝ }
 {
-    if key < key_number(numbers, tag, row_place(counts, tag, later)) {
+    if key < later_key {
         return row;
     }
     later
@@ -75,13 +72,18 @@ fn nearer_row(counts: Counts, numbers: &[usize], tag: Tag, row: u32, later: u32,
 fn likely_row(counts: Counts, numbers: &[usize], tag: Tag, at: usize) -> u32
     requires { ⌜ at < 2 ^ 41 ⌝ }
 {
-    let key = key_number(numbers, tag, at);
-    let mut row = 0;
+    let form = form_of(tag);
+    let key = form.key;
+    let columns = form.columns;
+    let start = row_place(counts, tag, 0);
+    let number = key_number(numbers, key, at);
+    let mut row: u32 = 0;
     let mut rows = count_of(counts, tag);
     while 1 < rows {
-        let half = rows / 2;
-        row = nearer_row(counts, numbers, tag, row, row + half, key);
-        rows -= half;
+        let later = row + rows / 2;
+        let place = start + later as usize * columns;
+        row = nearer_row(row, later, number, key_number(numbers, key, place));
+        rows -= rows / 2;
     }
     row
 }

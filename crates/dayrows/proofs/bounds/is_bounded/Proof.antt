@@ -1,104 +1,39 @@
--- No number that the search has passed is beyond its bounds.
-use mathlib.Core.Path.{_≡_, ap, sym}
-use mathlib.Core.Bool.{not}
-use Prim.Native.Nat.{_+_, _-_}
+-- Where the list has the row whole, its kinds are tested; else its columns, one by one.
+use mathlib.Core.Path.{ap}
 use native.Mathlib.Omega.{arith}
-use borrow.Author.Needs.{needs}
-use Rattle.columns.specs.Column.{col}
-use Rattle.columns.proofs.Firsts.{Searched, searched-none, searched-more}
-use Rattle.dayformat.specs.Format.{body, column-in, form}
 use Rattle.dayformat.proofs.Small.{small}
-use Rattle.dayrows.specs.Test.{within, bounded}
-use Rattle.dayrows.proofs.Searches.{not-clear, clear}
-use Rattle.dayrows.proofs.Within.{below-low, above-high, between}
+use borrow.Author.Needs.{needs}
 use Rattle.dayrows.proofs.bounds.is_bounded.Statement.{statement}
 use Rattle.dayrows.proofs.bounds.is_bounded.Tie as tie
 
-abbrev Inv-loop : tie.InvT-loop
-Inv-loop numbers tag at columns place₀ place =
-    (columns ≡ form tag .columns) × Searched (λ i. not (within (column-in (body tag) i) (col numbers (at + i)))) columns place
-
-abbrev μ-loop : tie.MeasureT-loop
-μ-loop numbers tag at columns place₀ place = columns - place
-
-form-of-requires : tie.Need-form-of-requires Inv-loop μ-loop
+form-of-requires : tie.Need-form-of-requires
 form-of-requires c κs = search needs
 
-loop-holds : tie.Need-loop-holds Inv-loop μ-loop
-loop-holds c = (ap (λ form. form .columns) (c .form-of .ensures), searched-none _ _)
+add-if1 : tie.Need-add-if1
+add-if1 c =
+    let form = c .before in
+    let start = form .before .before in
+    omega (arith, start .pre, small (start .args .tag) .columns, ap (λ form. form .columns) (form .form-of .ensures))
 
-column-at-requires : tie.Need-column-at-requires Inv-loop μ-loop
-column-at-requires c κs = search needs
+columns-are-bounded-requires : tie.Need-columns-are-bounded-requires
+columns-are-bounded-requires c κs = search needs
 
-add-number-of : tie.Need-add-number-of Inv-loop μ-loop
-add-number-of c =
-    let loop = c .before .before in
-    omega (arith, small (loop .before .before .before .args .tag) .columns, loop .loop .inv .0)
+returns : tie.Need-returns
+returns c = search needs
 
-number-of-requires : tie.Need-number-of-requires Inv-loop μ-loop
-number-of-requires c κs = search needs
+kinds-are-bounded-requires : tie.Need-kinds-are-bounded-requires
+kinds-are-bounded-requires c κs = omega (arith, c .if1 .left, ap (λ form. form .columns) (c .before .before .form-of .ensures))
 
-returns : tie.Need-returns Inv-loop μ-loop
-unfolding bounded
-returns c =
-    let number = c .before .before in
-    let column = number .before .column-at in
-    let turn = number .before .before in
-    let inv = turn .before .loop .inv in
-    rw (← inv .0)
-    (sym
-    (not-clear _ _ _ (inv .1) (turn .loop-test .taken)
-    (rw (← column .ensures, ← number .number-of .ensures) (below-low (column .result) _ (c .if1 .taken)))))
-
-returns-2 : tie.Need-returns-2 Inv-loop μ-loop
-unfolding bounded
-returns-2 c =
-    let low = c .before .before in
-    let number = low .before .before in
-    let column = number .before .column-at in
-    let turn = number .before .before in
-    let inv = turn .before .loop .inv in
-    rw (← inv .0)
-    (sym
-    (not-clear _ _ _ (inv .1) (turn .loop-test .taken)
-    (rw (← column .ensures, ← number .number-of .ensures) (above-high (column .result) _ (low .if1 .left) (c .if2 .taken)))))
-
-add-place : tie.Need-add-place Inv-loop μ-loop
-add-place c = search needs
-
-loop-less : tie.Need-loop-less Inv-loop μ-loop
-loop-less c = search needs
-
-loop-again : tie.Need-loop-again Inv-loop μ-loop
-loop-again c =
-    let low = c .before .before in
-    let number = low .before .before in
-    let column = number .before .column-at in
-    let turn = number .before .before in
-    let inv = turn .before .loop .inv in (
-      inv .0,
-      searched-more _ _ _ (inv .1) (turn .loop-test .taken)
-          (rw (← column .ensures, ← number .number-of .ensures) (between (column .result) _ (low .if1 .left) (c .if2 .left))),
-    )
-
-returns-3 : tie.Need-returns-3 Inv-loop μ-loop
-unfolding bounded
-returns-3 c = let inv = c .before .loop .inv in rw (← inv .0) (sym (clear _ _ _ (inv .1) (c .loop-test .left)))
+returns-2 : tie.Need-returns-2
+returns-2 c = search needs
 
 pub is-bounded-spec : {M : Type 1} → statement M
 is-bounded-spec =
     tie.close
     (tie.spec
-    Inv-loop
-    μ-loop
     form-of-requires
-    loop-holds
-    column-at-requires
-    add-number-of
-    number-of-requires
+    add-if1
+    columns-are-bounded-requires
     returns
-    returns-2
-    add-place
-    loop-less
-    loop-again
-    returns-3)
+    kinds-are-bounded-requires
+    returns-2)
