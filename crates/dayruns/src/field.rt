@@ -131,8 +131,10 @@ fn read_stretches(
     numbers: &mut [usize],
     to: usize,
 )
-    requires { ⌜ (at + (sides + 2 * names + 4 * figures) ≤ length (now file)) × (to + (sides + names + figures) ≤ length (now numbers)) ⌝ }
-    ensures { λ _. ⌜ now (numbers .exit) ≡ sets (now (numbers .entry)) to (decode (stretch-widths sides names figures) (drop at (now (file .entry)))) ⌝ }
+    requires { ⌜ (at + (sides + 2 * names + 4 * figures) ≤ length (now file))
+        × (to + (sides + names + figures) ≤ length (now numbers)) ⌝ }
+    ensures { λ _. ⌜ now (numbers .exit)
+        ≡ sets (now (numbers .entry)) to (decode (stretch-widths sides names figures) (drop at (now (file .entry)))) ⌝ }
 {
     read_numbers(file, at, 1, sides, numbers, to);
     read_numbers(file, at + sides, 2, names, numbers, to + sides);

@@ -8,7 +8,8 @@ use Rattle.dayruns.proofs.field.read_numbers.Statement.{statement}
 use Rattle.dayruns.proofs.field.read_numbers.Tie as tie
 
 abbrev Inv-loop : tie.InvT-loop
-Inv-loop file at width many numbers₀ to byte₀ place₀ numbers byte place = Stretch file at width many numbers₀ to place byte numbers
+Inv-loop file at width many numbers₀ to byte₀ place₀ numbers byte place =
+    Stretch file at width many numbers₀ to place byte numbers
 
 abbrev μ-loop : tie.MeasureT-loop
 μ-loop file at width many numbers₀ to byte₀ place₀ numbers byte place = many - place
@@ -16,7 +17,7 @@ abbrev μ-loop : tie.MeasureT-loop
 loop-holds : tie.Need-loop-holds Inv-loop μ-loop
 loop-holds c =
     let start = c .before .before in
-    stretch-none (start .args .file .now) (start .args .at) (start .args .width) (start .args .many) (start .args .numbers .now) (start .args .to) (start .pre .1)
+    stretch-none _ _ _ _ _ _ (start .pre .1)
 
 add-number-at : tie.Need-add-number-at Inv-loop μ-loop
 add-number-at c = search needs
@@ -30,10 +31,9 @@ part-number-at-start c = search needs
 part-number-at-end : tie.Need-part-number-at-end Inv-loop μ-loop
 part-number-at-end c =
     let now = c .before in
-    let start = now .before .before .before in
     omega (
       arith,
-      stretch-room (start .args .file .now) (start .args .at) (start .args .width) (start .args .many) (start .args .numbers .now) (start .args .to)
+      stretch-room _ _ _ _ _ _
           (now .loop .place) (now .loop .byte) (now .loop .inv) (c .loop-test .taken),
     )
 
@@ -66,7 +66,7 @@ loop-again c =
     let turn = c .before .before in
     let now = turn .before in
     let start = now .before .before .before in
-    stretch-next (start .args .file .now) (start .args .at) (start .args .width) (start .args .many) (start .args .numbers .now) (start .args .to)
+    stretch-next _ _ _ _ _ _
     (now .loop .place) (now .loop .byte) (now .loop .inv) (turn .loop-test .taken) (start .pre .0) (c .number-at .ensures) refl
 
 same-length : tie.Need-same-length Inv-loop μ-loop
@@ -75,8 +75,7 @@ same-length c = search needs
 returns : tie.Need-returns Inv-loop μ-loop
 returns c =
     let now = c .before in
-    let start = now .before .before .before in
-    stretch-all (start .args .file .now) (start .args .at) (start .args .width) (start .args .many) (start .args .numbers .now) (start .args .to)
+    stretch-all _ _ _ _ _ _
     (now .loop .place) (now .loop .byte) (now .loop .inv) (c .loop-test .left)
 
 pub read-numbers-spec : {M : Type 1} → statement M
