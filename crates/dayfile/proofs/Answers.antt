@@ -2,6 +2,7 @@
 use mathlib.Core.Path.{_≡_, ap, sym, _∙_}
 use mathlib.Core.List.{List}
 use Prim.Native.Nat.{ℕ, _≤_}
+use native.Mathlib.Omega.{arith}
 use borrow.Author.Tests.{leb-true}
 use lib.Dec.{leb}
 use lib.ListN.{length}
@@ -53,6 +54,9 @@ module _ (t : Tested) where
 
     sound : t .walk .fault ≡ 0
     sound = faultless (t .walk) (sym (t .checks) ∙ both .0)
+
+    pub accepted-there : t .count ≤ length (t .numbers)
+    accepted-there = omega (arith, t .counted, t .walked .fits sound)
 
     copied : listed (t .count) (col (t .numbers)) ≡ tables (t .file) .numbers
     copied =

@@ -1,5 +1,6 @@
 pub mod Answers
 pub mod Determined
+pub mod Parts
 pub mod Rooms
 pub mod Stages
 pub mod Steps

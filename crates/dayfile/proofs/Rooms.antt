@@ -75,3 +75,6 @@ module _ (c : Counts) where
   room-after Point few = omega (arith, few .shippers)
   room-after Entry few = omega (arith, few .shippers, few .points)
   room-after Meter few = omega (arith, few .shippers, few .points, few .entries)
+
+  pub few-fit : Few c → numbers-in c ≤ most-numbers
+  few-fit few = omega (arith, few .shippers, few .points, few .entries, few .meters)

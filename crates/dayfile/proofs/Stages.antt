@@ -14,7 +14,7 @@ use Rattle.dayruns.proofs.Ending.{ended-none}
 use Rattle.dayfile.specs.File.{Tables, headed, tabled, tables, most-numbers, Tabled, Walked}
 use Rattle.dayruns.proofs.Fronts.{front-none}
 use Rattle.dayformat.proofs.Small.{Table}
-use Rattle.dayfile.proofs.Rooms.{before, few-none}
+use Rattle.dayfile.proofs.Rooms.{before, few-none, few-fit}
 use Rattle.dayfile.proofs.Walking.{Held, Ready, table-answers, table-ready}
 
 -- after the run of a tag
@@ -55,6 +55,8 @@ stage-last file {last = last} {list = list} S e =
       holds = λ none. held none .front;
       counts = λ none.
           held none .long ∙ ap (λ walk. numbers-in (walk .counts)) (sym (ended-none file (tables file .walk) (sound none) .2) ∙ sym whole);
+      fits = λ none.
+          rw (S .room, whole, ended-none file (tables file .walk) (sound none) .2) (few-fit (tables file .walk .counts) (held none .few));
     }
   where
     whole : last ≡ ended file (tables file .walk)

@@ -2,7 +2,7 @@
 use mathlib.Core.Path.{_≡_}
 use mathlib.Core.Bool.{cond}
 use mathlib.Core.List.{List, [], _++_}
-use Prim.Native.Nat.{ℕ}
+use Prim.Native.Nat.{ℕ, _≤_}
 use lib.Dec.{eqb}
 use lib.ListN.{length, take, drop}
 use Rattle.columns.specs.Column.{col}
@@ -93,3 +93,4 @@ pub record Walked (file after : List ℕ) (walk : Walk) : Type 0 where
   pub answers : walk ≡ walked file
   pub holds : walk .fault ≡ 0 → col after ≡ col (tables file .numbers)
   pub counts : walk .fault ≡ 0 → length (tables file .numbers) ≡ numbers-in (walk .counts)
+  pub fits : walk .fault ≡ 0 → numbers-in (walk .counts) ≤ length after

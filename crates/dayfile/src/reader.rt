@@ -56,12 +56,20 @@ fn head_of(file: &[u8]) -> Head
     }
 }
 
-// The first of the numbers to the front of a block.
+// A part to the front of a block.
+fn copy_part(part: &[usize], lent: &mut [usize])
+    requires { ⌜ length (now part) ≤ length (now lent) ⌝ }
+    ensures { λ _. ⌜ now (lent .exit) ≡ sets (now (lent .entry)) 0 (listed (length (now (part .entry))) (col (now (part .entry)))) ⌝ }
+{
+    for place in 0..part.len() {
+        lent[place] = part[place];
+    }
+}
+
+// The first of the numbers to the front of a block, which are there, so that no end is looked for.
 fn copy_numbers(numbers: &[usize], count: usize, lent: &mut [usize])
-    requires { ⌜ count ≤ length (now lent) ⌝ }
+    requires { ⌜ (count ≤ length (now numbers)) × (count ≤ length (now lent)) ⌝ }
     ensures { λ _. ⌜ now (lent .exit) ≡ sets (now (lent .entry)) 0 (listed count (col (now (numbers .entry)))) ⌝ }
 {
-    for place in 0..count {
-        lent[place] = number_of(numbers, place);
-    }
+    copy_part(&numbers[..count], lent);
 }

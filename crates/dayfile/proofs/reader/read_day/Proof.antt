@@ -1,5 +1,5 @@
 -- The file is walked through as the definition has it, and its numbers are copied where nothing is found.
-use Rattle.dayfile.proofs.Answers.{Tested, refuses, accepted-fits, reads}
+use Rattle.dayfile.proofs.Answers.{Tested, refuses, accepted-fits, accepted-there, reads}
 use borrow.Author.Needs.{needs}
 use Rattle.dayfile.proofs.reader.read_day.Statement.{statement}
 use Rattle.dayfile.proofs.reader.read_day.Tie as tie
@@ -53,7 +53,8 @@ copy-numbers-requires : tie.Need-copy-numbers-requires
 copy-numbers-requires c κs =
     let told = c .before .before in
     let k = told .before .before in
-    accepted-fits (tested k) (told .enum-told .given .1)
+    let yes = told .enum-told .given .1 in
+    (accepted-there (tested k) yes, accepted-fits (tested k) yes)
 
 head-of-requires : tie.Need-head-of-requires
 head-of-requires c κs = search needs
