@@ -1,7 +1,7 @@
 -- The top is the level where it fits; where it does not, the search starts from that.
 use native.Mathlib.Omega.{arith}
-use Rattle.rounds.proofs.Searches.{level-top}
 use borrow.Author.Needs.{needs}
+use Rattle.rounds.proofs.Searches.{level-top}
 use Rattle.rounds.proofs.level.level_of.Statement.{statement}
 use Rattle.rounds.proofs.level.level_of.Tie as tie
 

@@ -2,11 +2,11 @@
 use mathlib.Core.Logic.{⊎-elim}
 use Prim.Native.Nat.{_*_, _-_, _≤_}
 use native.Mathlib.Omega.{arith}
+use borrow.Author.Needs.{needs}
 use lib.ListN.{length}
 use Rattle.columns.specs.Column.{col}
 use Rattle.columns.proofs.Sums.{Adding, adding-none, adding-next, adding-bound, adding-all}
 use Rattle.sharing.specs.Round.{share}
-use borrow.Author.Needs.{needs}
 use Rattle.rounds.proofs.pass.pass_at.Statement.{statement}
 use Rattle.rounds.proofs.pass.pass_at.Tie as tie
 

@@ -1,7 +1,7 @@
 -- The division answers only where a higher level gives the row more; the law says what it answers.
 use native.Mathlib.Omega.{arith}
-use Rattle.rounds.proofs.Unchanging.{weighted, last-same}
 use borrow.Author.Needs.{needs}
+use Rattle.rounds.proofs.Unchanging.{weighted, last-same}
 use Rattle.rounds.proofs.unchanged.last_of_row.Statement.{statement}
 use Rattle.rounds.proofs.unchanged.last_of_row.Tie as tie
 

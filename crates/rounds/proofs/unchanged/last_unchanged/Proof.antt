@@ -1,10 +1,10 @@
 -- At every turn no row so far is given more at the last level than at low.
 use Prim.Native.Nat.{_-_}
 use native.Mathlib.Omega.{arith}
+use borrow.Author.Needs.{needs}
 use lib.ListN.{length}
 use Rattle.columns.specs.Column.{col}
 use Rattle.rounds.proofs.Unchanging.{Lasting, lasting-none, lasting-next, lasting-all}
-use borrow.Author.Needs.{needs}
 use Rattle.rounds.proofs.unchanged.last_unchanged.Statement.{statement}
 use Rattle.rounds.proofs.unchanged.last_unchanged.Tie as tie
 
