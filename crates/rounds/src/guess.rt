@@ -4,8 +4,8 @@ use crate::share::TOP;
 ghost use Prim.Native.Nat.{_+_, _≤_, _<_};
 ghost use Rattle.sharing.specs.Round.{top};
 
-// So many passes may follow a guess; after them the search halves.
-const GUESSES: u64 = 32;
+// So many passes may follow a guess, for each may fill one of 64 rows; after them the search halves.
+const GUESSES: u64 = 64;
 
 // How far a level moves while rows of so much weight take so many gigajoules, and half of one, for rounding down hides a part.
 pub fn step(gigajoules: u32, weight: u32) -> u64
