@@ -1,4 +1,5 @@
 // 5: a key that does not rise, or names something not listed.
+use crate::Near;
 use crate::bounds::number_of;
 use dayformat::Counts;
 use dayformat::Tag;
@@ -10,9 +11,6 @@ ghost use mathlib.Core.Bool.{true};
 ghost use Prim.Native.Nat.{_^_, _≤_, _<_};
 ghost use Rattle.columns.specs.Column.{col};
 ghost use Rattle.dayrows.specs.Test.{difference, rises, lists, named};
-
-// Sides and names are below it.
-const NAMES: usize = 65_536;
 
 // The first of so many numbers in which those from one place on differ from those from another.
 fn first_difference(numbers: &[usize], many: usize, one: usize, other: usize) -> usize
@@ -46,55 +44,12 @@ pub fn rises(counts: Counts, numbers: &[usize], tag: Tag, row: u32) -> bool
     false
 }
 
-// A shipper's or a point's key as one number that grows with it, where its numbers are within their bounds.
-fn key_number(numbers: &[usize], key: usize, at: usize) -> usize
-    requires { ⌜ at < 2 ^ 41 ⌝ }
-{
-    let first = number_of(numbers, at) % NAMES;
-    if key == 1 {
-        return first;
-    }
-    first * NAMES + number_of(numbers, at + 1) % NAMES
-}
-
-// The later of two rows, unless its key is above the one that is looked for.
-fn nearer_row(row: u32, later: u32, key: usize, later_key: usize) -> u32
-    requires { ⌜ row ≤ later ⌝ }
-    ensures { λ r. ⌜ r ≤ later ⌝ }
-{
-    if key < later_key {
-        return row;
-    }
-    later
-}
-
-// The row that has the key at a place, found by halving where keys rise. The answer is only tried, so nothing is proved of it.
-fn likely_row(counts: Counts, numbers: &[usize], tag: Tag, at: usize) -> u32
-    requires { ⌜ at < 2 ^ 41 ⌝ }
-{
-    let form = form_of(tag);
-    let key = form.key;
-    let columns = form.columns;
-    let start = row_place(counts, tag, 0);
-    let number = key_number(numbers, key, at);
-    let mut row: u32 = 0;
-    let mut rows = count_of(counts, tag);
-    while 1 < rows {
-        let later = row + rows / 2;
-        let place = start + later as usize * columns;
-        row = nearer_row(row, later, number, key_number(numbers, key, place));
-        rows -= rows / 2;
-    }
-    row
-}
-
-// Whether the likely row has the key that stands at a place.
-fn likely_row_has(counts: Counts, numbers: &[usize], tag: Tag, at: usize) -> bool
+// Whether a row, if the tag has it, has the key that stands at a place.
+fn row_has(counts: Counts, numbers: &[usize], tag: Tag, row: u32, at: usize) -> bool
     requires { ⌜ at < 2 ^ 41 ⌝ }
     ensures { λ r. ⌜ (r ≡ true → lists counts (col (now (numbers .entry))) tag at ≡ true) ⌝ }
 {
     let key = form_of(tag).key;
-    let row = likely_row(counts, numbers, tag, at);
     if count_of(counts, tag) <= row {
         return false;
     }
@@ -118,19 +73,19 @@ fn some_row_has(counts: Counts, numbers: &[usize], tag: Tag, at: usize) -> bool
     false
 }
 
-// Whether some row of the tag has the key that stands at a place. In a sound day the likely one has.
-fn lists(counts: Counts, numbers: &[usize], tag: Tag, at: usize) -> bool
+// Whether some row of the tag has the key that stands at a place. One row is asked first.
+fn lists(counts: Counts, numbers: &[usize], tag: Tag, near: u32, at: usize) -> bool
     requires { ⌜ at < 2 ^ 41 ⌝ }
     ensures { λ r. ⌜ r ≡ lists counts (col (now (numbers .entry))) tag at ⌝ }
 {
-    if likely_row_has(counts, numbers, tag, at) {
+    if row_has(counts, numbers, tag, near, at) {
         return true;
     }
     some_row_has(counts, numbers, tag, at)
 }
 
 // Whether the row that begins at a place names only shippers and points that are listed.
-pub fn is_named(counts: Counts, numbers: &[usize], tag: Tag, at: usize) -> bool
+pub fn is_named(counts: Counts, numbers: &[usize], tag: Tag, at: usize, near: Near) -> bool
     requires { ⌜ at < 2 ^ 40 ⌝ }
     ensures { λ r. ⌜ r ≡ named counts (col (now (numbers .entry))) tag at ⌝ }
 {
@@ -139,11 +94,11 @@ pub fn is_named(counts: Counts, numbers: &[usize], tag: Tag, at: usize) -> bool
         Tag::Shipper => true,
         Tag::Point => true,
         Tag::Entry => {
-            if lists(counts, numbers, Tag::Point, at) {
-                return lists(counts, numbers, Tag::Shipper, at + 2);
+            if lists(counts, numbers, Tag::Point, near.point, at) {
+                return lists(counts, numbers, Tag::Shipper, near.shipper, at + 2);
             }
             false
         }
-        Tag::Meter => lists(counts, numbers, Tag::Shipper, at),
+        Tag::Meter => lists(counts, numbers, Tag::Shipper, near.shipper, at),
     }
 }

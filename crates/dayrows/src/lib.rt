@@ -31,14 +31,39 @@ pub enum Test {
     Mdq,
 }
 
+// The rows that a row's names are first looked for in. Whatever they are, the answers are the same.
+pub struct Near {
+    pub point: u32,
+    pub shipper: u32,
+}
+
+const NOWHERE: Near = Near {
+    point: 0,
+    shipper: 0,
+};
+
 // The number of the first test that a row fails, 0 for none.
 pub fn row_fault(source: Source, counts: Counts, numbers: &[usize], tag: Tag, row: u32) -> u8
+    ensures { λ r. ⌜ r ≡ fault source counts (col (now (numbers .entry))) tag row ⌝ }
+{
+    row_fault_near(source, counts, numbers, tag, row, NOWHERE)
+}
+
+// The same, with a word where the names may be found.
+pub fn row_fault_near(
+    source: Source,
+    counts: Counts,
+    numbers: &[usize],
+    tag: Tag,
+    row: u32,
+    near: Near,
+) -> u8
     ensures { λ r. ⌜ r ≡ fault source counts (col (now (numbers .entry))) tag row ⌝ }
 {
     if !keeps_bounds(source, counts, numbers, tag, row) {
         return 3;
     }
-    if !keeps_key(source, counts, numbers, tag, row) {
+    if !keeps_key(source, counts, numbers, tag, row, near) {
         return 5;
     }
     if !keeps_mdq(counts, numbers, tag, row) {
@@ -71,21 +96,42 @@ fn is_of_side(source: Source, number: usize) -> bool
 }
 
 // 5: a key that does not rise, or names something not listed.
-fn keeps_key(source: Source, counts: Counts, numbers: &[usize], tag: Tag, row: u32) -> bool
+fn keeps_key(
+    source: Source,
+    counts: Counts,
+    numbers: &[usize],
+    tag: Tag,
+    row: u32,
+    near: Near,
+) -> bool
     ensures { λ r. ⌜ r ≡ passes Test.Key source counts (col (now (numbers .entry))) tag row ⌝ }
 {
     if rises(counts, numbers, tag, row) {
-        return names_are_known(source, counts, numbers, tag, row_place(counts, tag, row));
+        return names_are_known(
+            source,
+            counts,
+            numbers,
+            tag,
+            row_place(counts, tag, row),
+            near,
+        );
     }
     false
 }
 
-fn names_are_known(source: Source, counts: Counts, numbers: &[usize], tag: Tag, at: usize) -> bool
+fn names_are_known(
+    source: Source,
+    counts: Counts,
+    numbers: &[usize],
+    tag: Tag,
+    at: usize,
+    near: Near,
+) -> bool
     requires { ⌜ at < 2 ^ 40 ⌝ }
     ensures { λ r. ⌜ r ≡ names-known source counts (col (now (numbers .entry))) tag at ⌝ }
 {
     match source {
-        Source::File => is_named(counts, numbers, tag, at),
+        Source::File => is_named(counts, numbers, tag, at, near),
         Source::Side(side) => true,
     }
 }
@@ -103,7 +149,7 @@ fn row_passes(test: Test, counts: Counts, numbers: &[usize], tag: Tag, row: u32)
 {
     match test {
         Test::Bounds => keeps_bounds(Source::File, counts, numbers, tag, row),
-        Test::Key => keeps_key(Source::File, counts, numbers, tag, row),
+        Test::Key => keeps_key(Source::File, counts, numbers, tag, row, NOWHERE),
         Test::Mdq => keeps_mdq(counts, numbers, tag, row),
     }
 }

@@ -1,4 +1,4 @@
--- The likely row, where it is one of the tag's, is a witness.
+-- A row of the tag that has the key is a witness.
 use mathlib.Core.Path.{ap, sym}
 use mathlib.Core.Bool.{true≢false}
 use native.Mathlib.Omega.{arith}
@@ -6,14 +6,11 @@ use borrow.Author.Needs.{needs}
 use Rattle.dayformat.proofs.Small.{small}
 use Rattle.dayrows.specs.Test.{lists}
 use Rattle.dayrows.proofs.Searches.{witnessed}
-use Rattle.dayrows.proofs.keys.likely_row_has.Statement.{statement}
-use Rattle.dayrows.proofs.keys.likely_row_has.Tie as tie
+use Rattle.dayrows.proofs.keys.row_has.Statement.{statement}
+use Rattle.dayrows.proofs.keys.row_has.Tie as tie
 
 form-of-requires : tie.Need-form-of-requires
 form-of-requires c κs = search needs
-
-likely-row-requires : tie.Need-likely-row-requires
-likely-row-requires c κs = search needs
 
 count-of-requires : tie.Need-count-of-requires
 count-of-requires c κs = search needs
@@ -26,7 +23,7 @@ row-place-requires c κs = search needs
 
 first-difference-requires : tie.Need-first-difference-requires
 first-difference-requires c κs =
-    let form = c .before .before .before .before in
+    let form = c .before .before .before in
     let start = form .before .before in
     let short = small (start .args .tag) in
     omega (arith, start .pre, short .key, short .columns, ap (λ form. form .key) (form .form-of .ensures), c .row-place .ensures .1)
@@ -37,17 +34,16 @@ returns-2 c = λ has.
     let place = c .before in
     let inside = place .before in
     let counted = inside .before in
-    let form = counted .before .before in
+    let form = counted .before in
     rw (← ap (λ form. form .key) (form .form-of .ensures))
-    (witnessed _ _ (counted .before .likely-row .result) (omega (arith, inside .if1 .left, counted .count-of .ensures))
+    (witnessed _ _ (form .before .before .args .row) (omega (arith, inside .if1 .left, counted .count-of .ensures))
     (rw (← place .row-place .ensures .0, ← c .first-difference .ensures .0) has))
 
-pub likely-row-has-spec : {M : Type 1} → statement M
-likely-row-has-spec =
+pub row-has-spec : {M : Type 1} → statement M
+row-has-spec =
     tie.close
     (tie.spec
     form-of-requires
-    likely-row-requires
     count-of-requires
     returns
     row-place-requires
