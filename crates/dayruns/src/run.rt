@@ -2,12 +2,14 @@
 use crate::field::begins;
 use crate::field::breaks;
 use crate::field::read_row;
+use crate::near::near_rows;
 use dayformat::Counts;
 use dayformat::Tag;
 use dayformat::form_of;
 use dayformat::row_place;
+use dayrows::Near;
 use dayrows::Source;
-use dayrows::row_fault;
+use dayrows::row_fault_near;
 ghost use Rattle.dayruns.specs.Run.{Taken, Ran};
 
 // How many sound fields there are, where they end, and the number of the fault there, 0 for none.
@@ -15,6 +17,46 @@ pub struct Run {
     pub rows: u32,
     pub place: usize,
     pub fault: u8,
+}
+
+// A field taken: the number that refuses it, 0 for none, and the rows that its names were found in.
+struct Step {
+    fault: u8,
+    near: Near,
+}
+
+const NOWHERE: Near = Near {
+    point: 0,
+    shipper: 0,
+};
+
+// Takes the field at a byte, whose names may be found near some rows. The row of a field that is whole goes into the numbers.
+fn take_near(
+    source: Source,
+    counts: Counts,
+    file: &[u8],
+    tag: Tag,
+    at: usize,
+    row: u32,
+    numbers: &mut [usize],
+    near: Near,
+) -> Step
+    ensures { λ r. ⌜ Taken source counts (now (file .entry)) tag at row (now (numbers .entry)) (now (numbers .exit)) (r .fault) ⌝ }
+{
+    if file.len() < at {
+        return Step { fault: 1, near };
+    }
+    let broken = breaks(file, tag, at);
+    if broken != 0 {
+        return Step {
+            fault: broken,
+            near,
+        };
+    }
+    read_row(file, tag, at + 3, numbers, row_place(counts, tag, row));
+    let found = near_rows(counts, numbers, tag, row, near);
+    let fault = row_fault_near(source, counts, numbers, tag, row, found);
+    Step { fault, near: found }
 }
 
 // The number that refuses the field at a byte, 0 for none. The row of a field that is whole goes into the numbers.
@@ -29,15 +71,7 @@ pub fn take_field(
 ) -> u8
     ensures { λ r. ⌜ Taken source counts (now (file .entry)) tag at row (now (numbers .entry)) (now (numbers .exit)) r ⌝ }
 {
-    if file.len() < at {
-        return 1;
-    }
-    let broken = breaks(file, tag, at);
-    if broken != 0 {
-        return broken;
-    }
-    read_row(file, tag, at + 3, numbers, row_place(counts, tag, row));
-    row_fault(source, counts, numbers, tag, row)
+    take_near(source, counts, file, tag, at, row, numbers, NOWHERE).fault
 }
 
 // The run of a tag's fields from a byte on. Their rows go into the numbers.
@@ -56,13 +90,16 @@ pub fn run_fields(
         r ⌝ }
 {
     let size = 3 + form_of(tag).size;
+    let mut near = NOWHERE;
     let mut rows = 0;
     let mut place = at;
     while begins(file, tag, place) {
-        let fault = take_field(source, counts, file, tag, place, rows, numbers);
+        let step = take_near(source, counts, file, tag, place, rows, numbers, near);
+        let fault = step.fault;
         if fault != 0 {
             return Run { rows, place, fault };
         }
+        near = step.near;
         rows += 1;
         place += size;
     }

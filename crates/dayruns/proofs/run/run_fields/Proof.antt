@@ -16,11 +16,11 @@ use Rattle.dayruns.proofs.run.run_fields.Statement.{statement}
 use Rattle.dayruns.proofs.run.run_fields.Tie as tie
 
 abbrev Inv-loop : tie.InvT-loop
-Inv-loop source counts file tag at numbers₀ size rows₀ place₀ numbers rows place =
+Inv-loop source counts file tag at numbers₀ size near₀ rows₀ place₀ numbers near rows place =
     Going (record { source = source; counts = counts; file = file; at = at; tag = tag }) numbers₀ rows place numbers
 
 abbrev μ-loop : tie.MeasureT-loop
-μ-loop source counts file tag at numbers₀ size rows₀ place₀ numbers rows place = length file - place
+μ-loop source counts file tag at numbers₀ size near₀ rows₀ place₀ numbers near rows place = length file - place
 
 abbrev fields : tie.Start Inv-loop μ-loop → Fields
 fields start =
@@ -51,52 +51,52 @@ loop-holds c = going-none (fields (c .before .before .before .before)) _
 begins-requires : tie.Need-begins-requires Inv-loop μ-loop
 begins-requires c κs = search needs
 
-take-field-requires : tie.Need-take-field-requires Inv-loop μ-loop
-take-field-requires c κs = omega (arith, begun-inside _ _ _ (on (c .before)))
+take-near-requires : tie.Need-take-near-requires Inv-loop μ-loop
+take-near-requires c κs = omega (arith, begun-inside _ _ _ (on (c .before)))
 
 same-length : tie.Need-same-length Inv-loop μ-loop
 same-length c =
     let took = c .before .before .before in
     let now = took .before .before .before .before in
-    taken-long _ _ _ _ _ _ _ (took .take-field .ensures) ∙ going-long (fields (start-of now)) _ (now .loop .inv)
+    taken-long _ _ _ _ _ _ _ (took .take-near .ensures) ∙ going-long (fields (start-of now)) _ (now .loop .inv)
 
 returns : tie.Need-returns Inv-loop μ-loop
 returns c =
     let took = c .before .before .before in
     let begins = took .before .before in
     let now = begins .before .before in
-    run-faulty (fields (start-of now)) _ (now .loop .inv) (on begins) (took .take-field .ensures) (c .if2 .taken)
+    run-faulty (fields (start-of now)) _ (now .loop .inv) (on begins) (took .take-near .ensures) (c .if2 .taken)
 
 add-rows : tie.Need-add-rows Inv-loop μ-loop
 add-rows c =
-    let took = c .before .before .before in
+    let took = c .before .before .before .before in
     let begins = took .before .before in
     let now = begins .before .before in
-    let fits = going-few (fields (start-of now)) _ (now .loop .inv) (on begins) (took .take-field .ensures) (c .if2 .left) in
+    let fits = going-few (fields (start-of now)) _ (now .loop .inv) (on begins) (took .take-near .ensures) (c .before .if2 .left) in
     omega (arith, fits, small (start-of now .args .tag) .most)
 
 add-place : tie.Need-add-place Inv-loop μ-loop
 add-place c =
-    let took = c .before .before .before in
+    let took = c .before .before .before .before in
     let begins = took .before .before in
     let now = begins .before .before in
-    let there = going-there (fields (start-of now)) _ (now .loop .inv) (on begins) (took .take-field .ensures) (c .if2 .left) in
+    let there = going-there (fields (start-of now)) _ (now .loop .inv) (on begins) (took .take-near .ensures) (c .before .if2 .left) in
     omega (arith, there, size-is (now .before), start-of now .good .1 .1 .0 .0)
 
 loop-less : tie.Need-loop-less Inv-loop μ-loop
 loop-less c =
-    let took = c .before .before .before in
+    let took = c .before .before .before .before in
     let begins = took .before .before in
     let now = begins .before .before in
     omega (arith, begun-inside _ _ _ (on begins))
 
 loop-again : tie.Need-loop-again Inv-loop μ-loop
 loop-again c =
-    let took = c .before .before .before in
+    let took = c .before .before .before .before in
     let begins = took .before .before in
     let now = begins .before .before in
-    rw (size-is (now .before)) (going-next (fields (start-of now)) _ (now .loop .inv) (on begins) (took .take-field .ensures)
-    (c .if2 .left))
+    rw (size-is (now .before)) (going-next (fields (start-of now)) _ (now .loop .inv) (on begins) (took .take-near .ensures)
+    (c .before .if2 .left))
 
 same-length-2 : tie.Need-same-length-2 Inv-loop μ-loop
 same-length-2 c =
@@ -118,7 +118,7 @@ run-fields-spec =
     add-size
     loop-holds
     begins-requires
-    take-field-requires
+    take-near-requires
     same-length
     returns
     add-rows
