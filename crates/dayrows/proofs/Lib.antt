@@ -1,4 +1,5 @@
 pub mod Faults
+pub mod Greatest
 pub mod Rising
 pub mod Same
 pub mod Searches

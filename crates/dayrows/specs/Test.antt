@@ -29,6 +29,11 @@ unfoldable pub bounded : (ℕ → ℕ) → Tag → ℕ → Bool
 bounded numbers tag at =
     leb (form tag .columns) (first (form tag .columns) (λ place. not (within (column-in (body tag) place) (numbers (at + place)))))
 
+-- no row of a column has more, and any less is less than some row has
+pub record Greatest (n : ℕ) (f : ℕ → ℕ) (number : ℕ) : Type 0 where
+  pub above : (row : ℕ) → row < n → f row ≤ number
+  pub reached : (less : ℕ) → less < number → (row : ℕ) × (row < n) × (less < f row)
+
 -- every number of a part is within the bounds of one column
 unfoldable pub all-within : Column → List ℕ → Bool
 all-within column part = leb (length part) (first (length part) (λ place. not (within column (col part place))))

@@ -4,11 +4,11 @@ use dayformat::Tag;
 use dayformat::column_at;
 use dayformat::form_of;
 ghost use mathlib.Core.Path.{_≡_};
-ghost use Prim.Native.Nat.{_+_, _^_, _≤_, _<_};
+ghost use Prim.Native.Nat.{_+_, _^_, _≤_, _<_, max};
 ghost use lib.ListN.{length};
 ghost use Rattle.columns.specs.Column.{col};
 ghost use Rattle.dayformat.specs.Format.{form};
-ghost use Rattle.dayrows.specs.Test.{all-within, OneKind, bounded};
+ghost use Rattle.dayrows.specs.Test.{Greatest, all-within, OneKind, bounded};
 
 // The number at a place, 0 past the list.
 pub fn number_of(numbers: &[usize], at: usize) -> usize
@@ -41,8 +41,29 @@ fn columns_are_bounded(numbers: &[usize], tag: Tag, at: usize) -> bool
     true
 }
 
-// Whether every number of a part is within the bounds of one column.
-fn are_within(part: &[usize], column: Column) -> bool
+// The larger of two numbers.
+fn larger(x: usize, y: usize) -> usize
+    ensures { λ r. ⌜ r ≡ max x y ⌝ }
+{
+    if x < y {
+        return y;
+    }
+    x
+}
+
+// The greatest number of a part, 0 for none.
+fn greatest_of(part: &[usize]) -> usize
+    ensures { λ r. ⌜ Greatest (length (now (part .entry))) (col (now (part .entry))) r ⌝ }
+{
+    let mut greatest = 0;
+    for place in 0..part.len() {
+        greatest = larger(greatest, part[place]);
+    }
+    greatest
+}
+
+// Whether every number of a part is within the bounds of one column, looked at one by one.
+fn each_is_within(part: &[usize], column: Column) -> bool
     ensures { λ r. ⌜ r ≡ all-within column (now (part .entry)) ⌝ }
 {
     let low = column.low;
@@ -56,6 +77,16 @@ fn are_within(part: &[usize], column: Column) -> bool
         }
     }
     true
+}
+
+// The same; where nothing is too low the greatest number tells it.
+fn are_within(part: &[usize], column: Column) -> bool
+    ensures { λ r. ⌜ r ≡ all-within column (now (part .entry)) ⌝ }
+{
+    if column.low == 0 {
+        return greatest_of(part) <= column.high;
+    }
+    each_is_within(part, column)
 }
 
 // Where a row's numbers of one kind end that begin at a place; a meter's hours, its most, are taken together.
