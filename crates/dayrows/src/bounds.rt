@@ -125,13 +125,27 @@ fn kinds_are_bounded(numbers: &[usize], tag: Tag, at: usize) -> bool
     true
 }
 
-// Whether every number of the row that begins at a place is within its bounds.
+// Whether every number of a meter's row is within its bounds.
+fn meter_is_bounded(numbers: &[usize], at: usize) -> bool
+    requires { ⌜ at < 2 ^ 40 ⌝ }
+    ensures { λ r. ⌜ r ≡ bounded (col (now (numbers .entry))) Tag.Meter at ⌝ }
+{
+    if numbers.len() < at + form_of(Tag::Meter).columns {
+        return columns_are_bounded(numbers, Tag::Meter, at);
+    }
+    kinds_are_bounded(numbers, Tag::Meter, at)
+}
+
+// Whether every number of the row that begins at a place is within its bounds. With each tag named, its columns are constants.
 pub fn is_bounded(numbers: &[usize], tag: Tag, at: usize) -> bool
     requires { ⌜ at < 2 ^ 40 ⌝ }
     ensures { λ r. ⌜ r ≡ bounded (col (now (numbers .entry))) tag at ⌝ }
 {
-    if numbers.len() < at + form_of(tag).columns {
-        return columns_are_bounded(numbers, tag, at);
+    match tag {
+        Tag::Head => columns_are_bounded(numbers, Tag::Head, at),
+        Tag::Shipper => columns_are_bounded(numbers, Tag::Shipper, at),
+        Tag::Point => columns_are_bounded(numbers, Tag::Point, at),
+        Tag::Entry => columns_are_bounded(numbers, Tag::Entry, at),
+        Tag::Meter => meter_is_bounded(numbers, at),
     }
-    kinds_are_bounded(numbers, tag, at)
 }
