@@ -23,11 +23,15 @@ fn is_same(numbers: &[usize], last: usize, one: usize, other: usize) -> bool
 fn row_from(counts: Counts, numbers: &[usize], tag: Tag, from: u32, at: usize) -> u32
     requires { ⌜ at < 2 ^ 41 ⌝ }
 {
+    let form = form_of(tag);
+    let columns = form.columns;
+    // A shipper's key is its name, a point's its side and its name.
+    let last = form.key / 2;
+    let start = row_place(counts, tag, 0);
     let rows = count_of(counts, tag);
-    let last = form_of(tag).key / 2;
     let mut row = from;
     while row < rows {
-        if is_same(numbers, last, row_place(counts, tag, row), at) {
+        if is_same(numbers, last, start + row as usize * columns, at) {
             return row;
         }
         row += 1;

@@ -2,68 +2,49 @@
 use borrow.Author.Needs.{needs}
 use Rattle.dayrows.proofs.bounds.is_bounded.Statement.{statement}
 use Rattle.dayrows.proofs.bounds.is_bounded.Tie as tie
-use Rattle.dayrows.proofs.bounds.is_bounded.Reads as reads
-use Rattle.dayrows.proofs.bounds.is_bounded.Lts as lts
-use Rattle.dayrows.proofs.bounds.columns_are_bounded.Reads as columns-are-bounded-reads
-use Rattle.dayrows.proofs.bounds.meter_is_bounded.Reads as meter-is-bounded-reads
 
--- src/bounds.rt:145:51
 enum-told : tie.Need-enum-told
 enum-told c = search needs
 
--- src/bounds.rt:145:22
 columns-are-bounded-requires : tie.Need-columns-are-bounded-requires
 columns-are-bounded-requires c κs = search needs
 
--- src/bounds.rt:146:54
 enum-told-2 : tie.Need-enum-told-2
 enum-told-2 c = search needs
 
--- src/bounds.rt:146:25
 columns-are-bounded-requires-2 : tie.Need-columns-are-bounded-requires-2
 columns-are-bounded-requires-2 c κs = search needs
 
--- src/bounds.rt:147:52
 enum-told-3 : tie.Need-enum-told-3
 enum-told-3 c = search needs
 
--- src/bounds.rt:147:23
 columns-are-bounded-requires-3 : tie.Need-columns-are-bounded-requires-3
 columns-are-bounded-requires-3 c κs = search needs
 
--- src/bounds.rt:148:52
 enum-told-4 : tie.Need-enum-told-4
 enum-told-4 c = search needs
 
--- src/bounds.rt:148:23
 columns-are-bounded-requires-4 : tie.Need-columns-are-bounded-requires-4
 columns-are-bounded-requires-4 c κs = search needs
 
--- src/bounds.rt:149:23
 enum-told-5 : tie.Need-enum-told-5
 enum-told-5 c = search needs
 
--- src/bounds.rt:149:23
 meter-is-bounded-requires : tie.Need-meter-is-bounded-requires
 meter-is-bounded-requires c κs = search needs
 
--- src/bounds.rt:140:1
 returns : tie.Need-returns
 returns c = rw (c .before .enum-told .given .1) (c .columns-are-bounded .ensures)
 
--- src/bounds.rt:140:1
 returns-2 : tie.Need-returns-2
 returns-2 c = rw (c .before .enum-told2 .given .1) (c .columns-are-bounded2 .ensures)
 
--- src/bounds.rt:140:1
 returns-3 : tie.Need-returns-3
 returns-3 c = rw (c .before .enum-told3 .given .1) (c .columns-are-bounded3 .ensures)
 
--- src/bounds.rt:140:1
 returns-4 : tie.Need-returns-4
 returns-4 c = rw (c .before .enum-told4 .given .1) (c .columns-are-bounded4 .ensures)
 
--- src/bounds.rt:140:1
 returns-5 : tie.Need-returns-5
 returns-5 c = rw (c .before .enum-told5 .given .1) (c .meter-is-bounded .ensures)
 
