@@ -37,20 +37,14 @@ pub struct Near {
     pub shipper: u32,
 }
 
-const NOWHERE: Near = Near {
+// Where nothing is known of them.
+pub const NOWHERE: Near = Near {
     point: 0,
     shipper: 0,
 };
 
 // The number of the first test that a row fails, 0 for none.
-pub fn row_fault(source: Source, counts: Counts, numbers: &[usize], tag: Tag, row: u32) -> u8
-    ensures { λ r. ⌜ r ≡ fault source counts (col (now (numbers .entry))) tag row ⌝ }
-{
-    row_fault_near(source, counts, numbers, tag, row, NOWHERE)
-}
-
-// The same, with a word where the names may be found.
-pub fn row_fault_near(
+pub fn row_fault(
     source: Source,
     counts: Counts,
     numbers: &[usize],

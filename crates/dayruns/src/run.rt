@@ -7,9 +7,10 @@ use dayformat::Counts;
 use dayformat::Tag;
 use dayformat::form_of;
 use dayformat::row_place;
+use dayrows::NOWHERE;
 use dayrows::Near;
 use dayrows::Source;
-use dayrows::row_fault_near;
+use dayrows::row_fault;
 ghost use Rattle.dayruns.specs.Run.{Taken, Ran};
 
 // How many sound fields there are, where they end, and the number of the fault there, 0 for none.
@@ -24,11 +25,6 @@ struct Step {
     fault: u8,
     near: Near,
 }
-
-const NOWHERE: Near = Near {
-    point: 0,
-    shipper: 0,
-};
 
 // Takes the field at a byte, whose names may be found near some rows. The row of a field that is whole goes into the numbers.
 fn take_near(
@@ -55,7 +51,7 @@ fn take_near(
     }
     read_row(file, tag, at + 3, numbers, row_place(counts, tag, row));
     let found = near_rows(counts, numbers, tag, row, near);
-    let fault = row_fault_near(source, counts, numbers, tag, row, found);
+    let fault = row_fault(source, counts, numbers, tag, row, found);
     Step { fault, near: found }
 }
 

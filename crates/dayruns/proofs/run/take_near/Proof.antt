@@ -37,8 +37,8 @@ read-row-requires c κs =
 near-rows-requires : tie.Need-near-rows-requires
 near-rows-requires c κs = search needs
 
-row-fault-near-requires : tie.Need-row-fault-near-requires
-row-fault-near-requires c κs = search needs
+row-fault-requires : tie.Need-row-fault-requires
+row-fault-requires c κs = search needs
 
 same-length : tie.Need-same-length
 same-length c = search needs
@@ -51,7 +51,7 @@ returns-3 c =
     let args = found .before .before .before .before .args in
     taken-whole (args .source) (args .counts) (args .file .now) (args .tag) (args .at) (args .row) (args .numbers .now)
     (found .breaks .ensures) (place .before .before .if2 .left)
-    (rw (← place .row-place .ensures .0) (read .read-row .ensures)) (c .row-fault-near .ensures)
+    (rw (← place .row-place .ensures .0) (read .read-row .ensures)) (c .row-fault .ensures)
 
 pub take-near-spec : {M : Type 1} → statement M
 take-near-spec =
@@ -64,6 +64,6 @@ take-near-spec =
     row-place-requires
     read-row-requires
     near-rows-requires
-    row-fault-near-requires
+    row-fault-requires
     same-length
     returns-3)

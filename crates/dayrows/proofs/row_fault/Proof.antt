@@ -3,8 +3,8 @@ use borrow.Author.Needs.{needs}
 use borrow.Author.Tests.{not-true, not-false}
 use Rattle.dayrows.specs.Test.{fault}
 use Rattle.dayrows.proofs.Faults.{mdq-any}
-use Rattle.dayrows.proofs.row_fault_near.Statement.{statement}
-use Rattle.dayrows.proofs.row_fault_near.Tie as tie
+use Rattle.dayrows.proofs.row_fault.Statement.{statement}
+use Rattle.dayrows.proofs.row_fault.Tie as tie
 
 keeps-bounds-requires : tie.Need-keeps-bounds-requires
 keeps-bounds-requires c κs = search needs
@@ -52,8 +52,8 @@ returns-4 c =
     (rw (← key .ensures, not-false (key .result) (risen .if2 .left))
     (rw (mdq-any, ← mdq .ensures, not-false (mdq .result) (c .if3 .left))))
 
-pub row-fault-near-spec : {M : Type 1} → statement M
-row-fault-near-spec =
+pub row-fault-spec : {M : Type 1} → statement M
+row-fault-spec =
     tie.close
     (tie.spec
     keeps-bounds-requires
