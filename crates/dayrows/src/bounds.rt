@@ -89,35 +89,27 @@ fn are_within(part: &[usize], column: Column) -> bool
     each_is_within(part, column)
 }
 
-// Where a row's numbers of one kind end that begin at a place; a meter's hours, its most, are taken together.
-fn kind_end(tag: Tag, place: usize) -> usize
-    requires { ⌜ place < form tag .columns ⌝ }
-    ensures { λ r. ⌜ OneKind tag place r ⌝ }
+// Where the numbers of one kind end that begin at a place of a meter's row; its hours, which are most of it, are taken together.
+fn kind_end(place: usize) -> usize
+    requires { ⌜ place < form Tag.Meter .columns ⌝ }
+    ensures { λ r. ⌜ OneKind Tag.Meter place r ⌝ }
 {
-    match tag {
-        Tag::Head => place + 1,
-        Tag::Shipper => place + 1,
-        Tag::Point => place + 1,
-        Tag::Entry => place + 1,
-        Tag::Meter => {
-            if place == 3 {
-                return 62;
-            }
-            place + 1
-        }
+    if place == 3 {
+        return 62;
     }
+    place + 1
 }
 
-// Whether the numbers of a row that the list has whole are within their bounds, kind by kind.
-fn kinds_are_bounded(numbers: &[usize], tag: Tag, at: usize) -> bool
-    requires { ⌜ at + form tag .columns ≤ length (now numbers) ⌝ }
-    ensures { λ r. ⌜ r ≡ bounded (col (now (numbers .entry))) tag at ⌝ }
+// Whether the numbers of a meter's row that the list has whole are within their bounds, kind by kind.
+fn kinds_are_bounded(numbers: &[usize], at: usize) -> bool
+    requires { ⌜ at + form Tag.Meter .columns ≤ length (now numbers) ⌝ }
+    ensures { λ r. ⌜ r ≡ bounded (col (now (numbers .entry))) Tag.Meter at ⌝ }
 {
-    let columns = form_of(tag).columns;
+    let columns = form_of(Tag::Meter).columns;
     let mut place = 0;
     while place < columns {
-        let end = kind_end(tag, place);
-        if !are_within(&numbers[at + place..at + end], column_at(tag, place)) {
+        let end = kind_end(place);
+        if !are_within(&numbers[at + place..at + end], column_at(Tag::Meter, place)) {
             return false;
         }
         place = end;
@@ -133,7 +125,7 @@ fn meter_is_bounded(numbers: &[usize], at: usize) -> bool
     if numbers.len() < at + form_of(Tag::Meter).columns {
         return columns_are_bounded(numbers, Tag::Meter, at);
     }
-    kinds_are_bounded(numbers, Tag::Meter, at)
+    kinds_are_bounded(numbers, at)
 }
 
 // Whether every number of the row that begins at a place is within its bounds. With each tag named, its columns are constants.

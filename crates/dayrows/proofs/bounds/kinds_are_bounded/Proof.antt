@@ -6,6 +6,7 @@ use native.Mathlib.Omega.{arith}
 use borrow.Author.Tests.{not-true, not-false}
 use Rattle.columns.specs.Column.{col}
 use Rattle.columns.proofs.Firsts.{Searched, searched-none}
+use Rattle.dayformat.specs.declared.form.Tag.the-variants as Tag
 use Rattle.dayformat.specs.Format.{body, column-in, form}
 use Rattle.dayrows.specs.Test.{within, bounded}
 use Rattle.dayrows.proofs.Searches.{clear}
@@ -15,11 +16,11 @@ use Rattle.dayrows.proofs.bounds.kinds_are_bounded.Statement.{statement
 use Rattle.dayrows.proofs.bounds.kinds_are_bounded.Tie as tie
 
 abbrev Inv-loop : tie.InvT-loop
-Inv-loop numbers tag at columns place₀ place =
-    (columns ≡ form tag .columns) × Searched (λ i. not (within (column-in (body tag) i) (col numbers (at + i)))) columns place
+Inv-loop numbers at columns place₀ place =
+    (columns ≡ form Tag.Meter .columns) × Searched (λ i. not (within (column-in (body Tag.Meter) i) (col numbers (at + i)))) columns place
 
 abbrev μ-loop : tie.MeasureT-loop
-μ-loop numbers tag at columns place₀ place = columns - place
+μ-loop numbers at columns place₀ place = columns - place
 
 form-of-requires : tie.Need-form-of-requires Inv-loop μ-loop
 form-of-requires c κs = search needs
