@@ -57,7 +57,9 @@ module _ (file : List ℕ) (at width many : ℕ) (lent : List ℕ) (to : ℕ) wh
         let one : many - place ≡ suc (many - (place + 1)) = omega (arith, l) in
         let all : min width widest ≡ width = omega (arith, narrow) in
         let part : byte + width - byte ≡ width = omega arith in
-        let read : number ≡ value (take width (drop byte file)) = n ∙ rw (all, part, take-take width width (drop byte file) (omega arith)) in
+        let read : number ≡ value (take width (drop byte file)) =
+        n ∙ rw (all, part, take-take width width (drop byte file) (omega arith))
+        in
         let next : to + (place + 1) ≡ to + place + 1 = omega arith in
         record {
           laying =

@@ -44,7 +44,9 @@ loop-again c =
 returns : tie.Need-returns Inv-loop μ-loop
 returns c =
     let inv = c .before .loop .inv in
-    let all : c .before .loop .place ≡ length (c .before .before .before .args .part .now) = omega (arith, inv .0, inv .1, c .loop-test .left) in
+    let all : c .before .loop .place ≡ length (c .before .before .before .args .part .now) =
+    omega (arith, inv .0, inv .1, c .loop-test .left)
+    in
     rw (← all) (inv .2)
 
 pub greatest-of-spec : {M : Type 1} → statement M

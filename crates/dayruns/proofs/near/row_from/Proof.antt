@@ -19,7 +19,8 @@ wide : (c : tie.In-loop Inv-loop μ-loop)
 wide c =
     let now = c .before in
     let form = now .before .before .before .before in
-    rw (ap (λ form. form .columns) (form .form-of .ensures)) (rows-small (form .before .before .args .tag) (now .loop .row) (now .loop .inv))
+    rw (ap (λ form. form .columns) (form .form-of .ensures))
+    (rows-small (form .before .before .args .tag) (now .loop .row) (now .loop .inv))
 
 form-of-requires : tie.Need-form-of-requires Inv-loop μ-loop
 form-of-requires c κs = search needs
