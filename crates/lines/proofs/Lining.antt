@@ -7,11 +7,11 @@ use native.Mathlib.Numerals.{add-one}
 use native.Mathlib.Decide.{decLt}
 use native.Mathlib.Omega.{arith}
 use lib.ListN.{length, take, drop, set, drop-of-length-le}
-use lib.Seq.{sets, set-out, length-sets, length-take-le, drop-cons, take-all}
+use lib.Seq.{length-sets, length-take-le, drop-cons, take-all}
 use Rattle.columns.specs.Column.{col}
 use Rattle.units.specs.declared.refusal.Refusal.{Refusal}
 use Rattle.text.specs.Text.{decimal, Laid}
-use Rattle.text.proofs.Laying.{laid-both}
+use Rattle.text.proofs.Laying.{laid-both, sets-past}
 use Rattle.lines.specs.Line.{most-figures, spaced, labelled, decimals, line, title, refused}
 
 -- a text and the byte that ends it
@@ -33,10 +33,6 @@ unfolding line
 line-labelled word next figure words = sym (append-assoc (spaced word) (spaced (decimal figure)) (line (next ∷ words)))
 
 -- ---- from the block's end on nothing is laid
-sets-past : (bytes list : List ℕ) (from : ℕ) → length list ≤ from → sets list from bytes ≡ list
-sets-past [] list from h = refl
-sets-past (byte ∷ bytes) list from h = rw (set-out list from byte h) (sets-past bytes list (suc from) (omega arith))
-
 -- for callers: so a text is counted
 pub laid-past : {bytes lent after : List ℕ} {at r : ℕ} → length lent ≤ at → Laid bytes lent at r after → after ≡ lent
 laid-past {bytes} {lent} {after} {at} h L = L .lays ∙ sets-past bytes lent at h

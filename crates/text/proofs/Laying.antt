@@ -6,7 +6,7 @@ use native.Mathlib.Nat.{add-zero, add-suc, suc-add}
 use native.Mathlib.Numerals.{add-one}
 use native.Mathlib.Omega.{arith}
 use lib.ListN.{length, set, drop, length-append, length-set, drop-of-length-le}
-use lib.Seq.{sets, set-comm, drop-cons}
+use lib.Seq.{sets, set-comm, set-out, drop-cons}
 use Rattle.columns.specs.Column.{col}
 use Rattle.columns.proofs.Lists.{sets-append}
 use Rattle.text.specs.Text.{last-digit, decimal, Laid}
@@ -20,6 +20,11 @@ laid-both {xs} {ys} {lent} {between} {after} {at} a b =
       counts = omega (arith, a .counts, b .counts, length-append xs ys);
       lays = b .lays ∙ rw (a .lays, a .counts) (sym (sets-append xs ys lent at));
     }
+
+-- past the block's end nothing is laid
+pub sets-past : (bytes list : List ℕ) (from : ℕ) → length list ≤ from → sets list from bytes ≡ list
+sets-past [] list from h = refl
+sets-past (byte ∷ bytes) list from h = rw (set-out list from byte h) (sets-past bytes list (suc from) (omega arith))
 
 -- a byte may be laid before those ahead of it
 sets-back : (list : List ℕ) (from byte : ℕ) (ahead : List ℕ)

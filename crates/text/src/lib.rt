@@ -42,6 +42,10 @@ pub fn put_decimal(number: u64, text: &mut [u8], at: usize) -> usize
     ensures { λ r. ⌜ Laid (decimal number) (now (text .entry)) at r (now (text .exit)) ⌝ }
 {
     let length = decimal_length(number);
+    // Past the block's end there is nothing to lay: so a text is counted.
+    if text.len() <= at {
+        return length;
+    }
     let mut place = length - 1;
     let mut rest = number;
     while 9 < rest {

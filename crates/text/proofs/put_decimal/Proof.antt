@@ -1,12 +1,12 @@
--- The digits of the rest are still to lay, the last of them next.
-use mathlib.Core.Path.{_≡_}
+-- The digits of the rest are still to lay, the last of them next; past the block's end there are none.
+use mathlib.Core.Path.{_≡_, sym}
 use Prim.Native.Nat.{_+_, _/_}
 use native.Mathlib.Omega.{arith}
 use borrow.Author.Needs.{needs}
 use lib.ListN.{length as count}
 use Rattle.text.specs.Text.{decimal}
 use Rattle.text.proofs.Decimals.{some-byte, length-more}
-use Rattle.text.proofs.Laying.{Laying, laying-none, number-next, number-all}
+use Rattle.text.proofs.Laying.{Laying, sets-past, laying-none, number-next, number-all}
 use Rattle.text.proofs.put_decimal.Statement.{statement}
 use Rattle.text.proofs.put_decimal.Tie as tie
 
@@ -20,11 +20,22 @@ abbrev μ-loop : tie.MeasureT-loop
 decimal-length-requires : tie.Need-decimal-length-requires Inv-loop μ-loop
 decimal-length-requires c κs = search needs
 
+returns : tie.Need-returns Inv-loop μ-loop
+returns c =
+    let told = c .before in
+    let args = told .before .before .args in
+    record {
+      counts = told .decimal-length .ensures;
+      lays = sym (sets-past (decimal (args .number)) (args .text .now) (args .at) (c .if1 .taken));
+    }
+
 sub-place : tie.Need-sub-place Inv-loop μ-loop
-sub-place c = omega (arith, c .decimal-length .ensures, some-byte (c .before .before .args .number))
+sub-place c = let told = c .before in omega (arith, told .decimal-length .ensures, some-byte (told .before .before .args .number))
 
 loop-holds : tie.Need-loop-holds Inv-loop μ-loop
-loop-holds c = (omega (arith, c .decimal-length .ensures, some-byte (c .before .before .args .number)), laying-none)
+loop-holds c =
+    let told = c .before in
+    (omega (arith, told .decimal-length .ensures, some-byte (told .before .before .args .number)), laying-none)
 
 last-digit-requires : tie.Need-last-digit-requires Inv-loop μ-loop
 last-digit-requires c κs = search needs
@@ -60,13 +71,13 @@ put-byte-requires-2 c κs = search needs
 same-length : tie.Need-same-length Inv-loop μ-loop
 same-length c = search needs
 
-returns : tie.Need-returns Inv-loop μ-loop
-returns c =
+returns-2 : tie.Need-returns-2 Inv-loop μ-loop
+returns-2 c =
     let put = c .before .before in
     let turn = put .before .before .before in
     let now = turn .before .loop in
     record {
-      counts = turn .before .before .decimal-length .ensures;
+      counts = turn .before .before .before .decimal-length .ensures;
       lays =
           number-all _ _ _ _ (now .inv .1) (turn .loop-test .left)
           (rw (put .before .before .last-digit2 .ensures) at (put .put-byte2 .ensures));
@@ -79,6 +90,7 @@ put-decimal-spec =
     Inv-loop
     μ-loop
     decimal-length-requires
+    returns
     sub-place
     loop-holds
     last-digit-requires
@@ -89,4 +101,4 @@ put-decimal-spec =
     last-digit-requires-2
     put-byte-requires-2
     same-length
-    returns)
+    returns-2)
