@@ -1,11 +1,11 @@
--- The number is what the bytes before `place` spell, and has room for a byte more while fewer than four are read.
+-- Four bytes are read at once; else the number is what those before `place` spell, with room for one more while fewer than four are read.
 use mathlib.Core.Path.{_≡_}
 use Prim.Native.Nat.{_+_, _-_, _≤_}
 use native.Mathlib.Omega.{arith}
 use borrow.Author.Needs.{needs}
 use lib.ListN.{take, drop}
 use Rattle.bigendian.specs.Number.{value}
-use Rattle.bigendian.proofs.Reading.{Turn, reading-none, reading-next, reading-room, reading-all, reading-past}
+use Rattle.bigendian.proofs.Reading.{Turn, reading-none, reading-next, reading-room, reading-all, reading-past, part-long, part-value}
 use Rattle.bigendian.proofs.number_at.Statement.{statement}
 use Rattle.bigendian.proofs.number_at.Tie as tie
 
@@ -18,7 +18,7 @@ abbrev μ-loop : tie.MeasureT-loop
 abbrev turn : tie.In-loop Inv-loop μ-loop → Turn
 turn c =
     let now = c .before in
-    let cut = now .before in
+    let cut = now .before .before in
     let known = cut .before .before .before in
     record {
       file = known .before .args .file .now;
@@ -43,9 +43,34 @@ sub-smaller c = search needs
 smaller-requires-2 : tie.Need-smaller-requires-2 Inv-loop μ-loop
 smaller-requires-2 c κs = search needs
 
+add-four-of : tie.Need-add-four-of Inv-loop μ-loop
+add-four-of c = search needs
+
+sub-four-of : tie.Need-sub-four-of Inv-loop μ-loop
+sub-four-of c = search needs
+
+part-four-of-start : tie.Need-part-four-of-start Inv-loop μ-loop
+part-four-of-start c = search needs
+
+part-four-of-end : tie.Need-part-four-of-end Inv-loop μ-loop
+part-four-of-end c = search needs
+
+four-of-requires : tie.Need-four-of-requires Inv-loop μ-loop
+four-of-requires c κs =
+    let cut = c .before .before in
+    let args = cut .before .before .before .before .args in
+    part-long (args .file .now) (args .at) _ (omega (arith, cut .smaller2 .ensures)) (c .before .if2 .taken)
+
+returns-2 : tie.Need-returns-2 Inv-loop μ-loop
+returns-2 c =
+    let cut = c .before .before .before in
+    let args = cut .before .before .before .before .args in
+    reading-all (args .file .now) (args .at) (args .width) _ _ _
+    (cut .before .smaller .ensures) (cut .smaller2 .ensures) (part-value (args .file .now) (args .at) _ (c .four-of .ensures))
+
 loop-holds : tie.Need-loop-holds Inv-loop μ-loop
 loop-holds c =
-    let args = c .before .before .before .before .args in
+    let args = c .before .before .before .before .before .args in
     (omega arith, reading-none (args .file .now) (args .at))
 
 mul-number : tie.Need-mul-number Inv-loop μ-loop
@@ -72,9 +97,9 @@ loop-less c = search needs
 loop-again : tie.Need-loop-again Inv-loop μ-loop
 loop-again c = (omega arith, reading-next (turn (c .before)))
 
-returns-2 : tie.Need-returns-2 Inv-loop μ-loop
-returns-2 c =
-    let cut = c .before .before in
+returns-3 : tie.Need-returns-3 Inv-loop μ-loop
+returns-3 c =
+    let cut = c .before .before .before in
     let args = cut .before .before .before .before .args in
     reading-all (args .file .now) (args .at) (args .width) _ (c .before .loop .place) _
     (cut .before .smaller .ensures) (omega (arith, cut .smaller2 .ensures)) (c .before .loop .inv .1)
@@ -89,6 +114,12 @@ number-at-spec =
     smaller-requires
     sub-smaller
     smaller-requires-2
+    add-four-of
+    sub-four-of
+    part-four-of-start
+    part-four-of-end
+    four-of-requires
+    returns-2
     loop-holds
     mul-number
     add-number
@@ -98,4 +129,4 @@ number-at-spec =
     add-place
     loop-less
     loop-again
-    returns-2)
+    returns-3)
