@@ -33,13 +33,13 @@ const NONE: Column = Column {
     high: 0,
 };
 
-const SIDE: Column = Column {
+pub const SIDE: Column = Column {
     width: 1,
     low: 0,
     high: 1,
 };
 
-const NAME: Column = Column {
+pub const NAME: Column = Column {
     width: 2,
     low: 1,
     high: 65_535,
@@ -51,19 +51,19 @@ const NUMBER: Column = Column {
     high: 4_294_967_295,
 };
 
-const GIGAJOULES: Column = Column {
+pub const GIGAJOULES: Column = Column {
     width: 4,
     low: 0,
     high: 1_000_000,
 };
 
-const HOUR: Column = Column {
+pub const HOUR: Column = Column {
     width: 4,
     low: 0,
     high: 100_000_000,
 };
 
-const BACKHAUL: Column = Column {
+pub const BACKHAUL: Column = Column {
     width: 4,
     low: 0,
     high: 2_400_000_000,

@@ -5,8 +5,13 @@ mod layout;
 
 pub use day::Day;
 pub use day::Head;
+pub use form::BACKHAUL;
 pub use form::Column;
 pub use form::Form;
+pub use form::GIGAJOULES;
+pub use form::HOUR;
+pub use form::NAME;
+pub use form::SIDE;
 pub use form::Tag;
 pub use form::column_at;
 pub use form::form_of;

@@ -1,6 +1,6 @@
 pub mod Faults
-pub mod Greatest
 pub mod Rising
 pub mod Same
 pub mod Searches
+pub mod Sound
 pub mod Within

@@ -17,7 +17,7 @@ use Rattle.dayrows.specs.declared.Source.{Source}
 use Rattle.dayrows.specs.declared.Source.the-variants.{File, Side}
 use Rattle.dayrows.specs.declared.Test.{Test}
 use Rattle.dayrows.specs.declared.Test.the-variants.{Bounds, Key, Mdq}
-use Rattle.dayrows.specs.Test.{within, bounded, difference, rises, lists, named, names-known, starved, passes, fault}
+use Rattle.dayrows.specs.Test.{within, bounded, difference, less, rises, lists, named, names-known, starved, passes, fault}
 
 -- the tables before a tag's have as many rows
 abbrev pub Earlier : Tag → Counts → Counts → Type 0
@@ -65,12 +65,8 @@ module _ (f g : ℕ → ℕ) where
   difference-same many one other first second = first-same _ _ _ (λ place l. rw (first place l, second place l))
 
   -- the first number in which two keys differ is compared only where they do
-  risen-same : (key one other : ℕ) → From one key → From other key
-      → cond (ltb (difference f key one other) key)
-      (ltb (f (one + difference f key one other)) (f (other + difference f key one other))) false
-      ≡ cond (ltb (difference g key one other) key)
-      (ltb (g (one + difference g key one other)) (g (other + difference g key one other))) false
-  risen-same key one other first second =
+  less-same : (key one other : ℕ) → From one key → From other key → less f key one other ≡ less g key one other
+  less-same key one other first second =
       let place = difference f key one other in
       rw (← difference-same key one other first second)
       (after-test (ltb place key) (ltb (f (one + place)) (f (other + place))) (ltb (g (one + place)) (g (other + place)))
@@ -82,7 +78,7 @@ module _ (f g : ℕ → ℕ) where
     rises-same zero same = refl
     rises-same (suc row) same =
         rw (← start)
-        (risen-same (form tag .key) (row-start c tag row) (row-start c tag (suc row))
+        (less-same (form tag .key) (row-start c tag row) (row-start c tag (suc row))
         (λ place l. same (row-start c tag row + place) (omega (arith, small tag .key)))
         (λ place l. same (row-start c tag (suc row) + place) (omega (arith, small tag .key))))
 

@@ -7,7 +7,7 @@ use borrow.Author.Tests.{lt-ltb, le-ltb, le-leb, lt-leb}
 use native.Mathlib.Decide.{decLt}
 use native.Mathlib.Omega.{arith}
 use Rattle.columns.specs.First.{first}
-use Rattle.columns.proofs.Firsts.{Searched, first-passed, stops, ends}
+use Rattle.columns.proofs.Firsts.{Searched, first-none, first-passed, stops, ends}
 
 module _ (p : ℕ → Bool) (n row : ℕ) (S : Searched p n row) where
   pub found : row < n → p row ≡ true → ltb (first n p) n ≡ true
@@ -29,3 +29,7 @@ witnessed p n row l e = by (decLt (first n p) n)
     by : Dec (first n p < n) → ltb (first n p) n ≡ true
     by (yes h) = lt-ltb (first n p) n h
     by (no h) = absurd (true≢false (sym e ∙ first-passed p n (omega (arith, h)) row l))
+
+-- where no row is marked it finds none
+pub unmarked : (p : ℕ → Bool) (n : ℕ) → ((row : ℕ) → row < n → p row ≡ false) → leb n (first n p) ≡ true
+unmarked p n none = le-leb n (first n p) (omega (arith, first-none p n none))

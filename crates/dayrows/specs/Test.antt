@@ -1,11 +1,7 @@
 -- 01, "The day file" and "Refusal numbers": the tests of a row among a day's numbers, for a file and for the writer alike.
-use mathlib.Core.Path.{_≡_}
 use mathlib.Core.Bool.{Bool, true, false, cond, not}
-use mathlib.Core.List.{List}
-use Prim.Native.Nat.{ℕ, zero, suc, _+_, _≤_, _<_}
+use Prim.Native.Nat.{ℕ, zero, suc, _+_}
 use lib.Dec.{leb, ltb, eqb}
-use lib.ListN.{length}
-use Rattle.columns.specs.Column.{col}
 use Rattle.columns.specs.First.{first}
 use Rattle.daytable.specs.Acceptance.{idle}
 use Rattle.dayformat.specs.declared.form.Tag.{Tag}
@@ -29,21 +25,6 @@ unfoldable pub bounded : (ℕ → ℕ) → Tag → ℕ → Bool
 bounded numbers tag at =
     leb (form tag .columns) (first (form tag .columns) (λ place. not (within (column-in (body tag) place) (numbers (at + place)))))
 
--- no row of a column has more, and any less is less than some row has
-pub record Greatest (n : ℕ) (f : ℕ → ℕ) (number : ℕ) : Type 0 where
-  pub above : (row : ℕ) → row < n → f row ≤ number
-  pub reached : (less : ℕ) → less < number → (row : ℕ) × (row < n) × (less < f row)
-
--- every number of a part is within the bounds of one column
-unfoldable pub all-within : Column → List ℕ → Bool
-all-within column part = leb (length part) (first (length part) (λ place. not (within column (col part place))))
-
--- the numbers of a row from a place up to another are of one kind
-pub record OneKind (tag : Tag) (place end : ℕ) : Type 0 where
-  pub some : place < end
-  pub inside : end ≤ form tag .columns
-  pub same : (other : ℕ) → place ≤ other → other < end → column-in (body tag) other ≡ column-in (body tag) place
-
 -- in a list of one side's entries, an entry of the other side is beyond its bound
 abbrev pub of-side : Source → ℕ → Bool
 of-side File number = true
@@ -54,14 +35,16 @@ of-side (Side side) number = eqb number side
 unfoldable pub difference : (ℕ → ℕ) → ℕ → ℕ → ℕ → ℕ
 difference numbers many one other = first many (λ place. not (eqb (numbers (one + place)) (numbers (other + place))))
 
--- keys rise strictly: the first number in which a row's key differs from that of the row before is the greater
+-- the first number in which the key that stands at one place differs from that at another is the less
+abbrev pub less : (ℕ → ℕ) → ℕ → ℕ → ℕ → Bool
+less numbers key one other =
+    let place = difference numbers key one other in
+    cond (ltb place key) (ltb (numbers (one + place)) (numbers (other + place))) false
+
+-- keys rise strictly: that of the row before is less
 unfoldable pub rises : Counts → (ℕ → ℕ) → Tag → ℕ → Bool
 rises counts numbers tag zero = true
-rises counts numbers tag (suc row) =
-    let before = row-start counts tag row in
-    let here = row-start counts tag (suc row) in
-    let place = difference numbers (form tag .key) before here in
-    cond (ltb place (form tag .key)) (ltb (numbers (before + place)) (numbers (here + place))) false
+rises counts numbers tag (suc row) = less numbers (form tag .key) (row-start counts tag row) (row-start counts tag (suc row))
 
 -- some row of the tag has the key that stands at a place
 unfoldable pub lists : Counts → (ℕ → ℕ) → Tag → ℕ → Bool

@@ -1,5 +1,4 @@
 // 5: a key that does not rise, or names something not listed.
-use crate::Near;
 use crate::bounds::number_of;
 use dayformat::Counts;
 use dayformat::Tag;
@@ -7,7 +6,6 @@ use dayformat::count_of;
 use dayformat::form_of;
 use dayformat::row_place;
 ghost use mathlib.Core.Path.{_≡_};
-ghost use mathlib.Core.Bool.{true};
 ghost use Prim.Native.Nat.{_^_, _≤_, _<_};
 ghost use Rattle.columns.specs.Column.{col};
 ghost use Rattle.dayrows.specs.Test.{difference, rises, lists, named};
@@ -44,20 +42,8 @@ pub fn rises(counts: Counts, numbers: &[usize], tag: Tag, row: u32) -> bool
     false
 }
 
-// Whether a row, if the tag has it, has the key that stands at a place.
-fn row_has(counts: Counts, numbers: &[usize], tag: Tag, row: u32, at: usize) -> bool
-    requires { ⌜ at < 2 ^ 41 ⌝ }
-    ensures { λ r. ⌜ (r ≡ true → lists counts (col (now (numbers .entry))) tag at ≡ true) ⌝ }
-{
-    let key = form_of(tag).key;
-    if count_of(counts, tag) <= row {
-        return false;
-    }
-    key <= first_difference(numbers, key, row_place(counts, tag, row), at)
-}
-
-// Whether some row has it, looked for in all.
-fn some_row_has(counts: Counts, numbers: &[usize], tag: Tag, at: usize) -> bool
+// Whether some row of the tag has the key that stands at a place.
+fn lists(counts: Counts, numbers: &[usize], tag: Tag, at: usize) -> bool
     requires { ⌜ at < 2 ^ 41 ⌝ }
     ensures { λ r. ⌜ r ≡ lists counts (col (now (numbers .entry))) tag at ⌝ }
 {
@@ -73,19 +59,8 @@ fn some_row_has(counts: Counts, numbers: &[usize], tag: Tag, at: usize) -> bool
     false
 }
 
-// Whether some row of the tag has the key that stands at a place. One row is asked first.
-fn lists(counts: Counts, numbers: &[usize], tag: Tag, near: u32, at: usize) -> bool
-    requires { ⌜ at < 2 ^ 41 ⌝ }
-    ensures { λ r. ⌜ r ≡ lists counts (col (now (numbers .entry))) tag at ⌝ }
-{
-    if row_has(counts, numbers, tag, near, at) {
-        return true;
-    }
-    some_row_has(counts, numbers, tag, at)
-}
-
 // Whether the row that begins at a place names only shippers and points that are listed.
-pub fn is_named(counts: Counts, numbers: &[usize], tag: Tag, at: usize, near: Near) -> bool
+pub fn is_named(counts: Counts, numbers: &[usize], tag: Tag, at: usize) -> bool
     requires { ⌜ at < 2 ^ 40 ⌝ }
     ensures { λ r. ⌜ r ≡ named counts (col (now (numbers .entry))) tag at ⌝ }
 {
@@ -94,11 +69,11 @@ pub fn is_named(counts: Counts, numbers: &[usize], tag: Tag, at: usize, near: Ne
         Tag::Shipper => true,
         Tag::Point => true,
         Tag::Entry => {
-            if lists(counts, numbers, Tag::Point, near.point, at) {
-                return lists(counts, numbers, Tag::Shipper, near.shipper, at + 2);
+            if lists(counts, numbers, Tag::Point, at) {
+                return lists(counts, numbers, Tag::Shipper, at + 2);
             }
             false
         }
-        Tag::Meter => lists(counts, numbers, Tag::Shipper, near.shipper, at),
+        Tag::Meter => lists(counts, numbers, Tag::Shipper, at),
     }
 }

@@ -13,6 +13,7 @@ use dayformat::Tag;
 use dayformat::count_of;
 use dayformat::form_of;
 use dayformat::row_place;
+pub use mdqs::is_idle;
 ghost use mathlib.Core.Path.{_≡_};
 ghost use Prim.Native.Nat.{_^_, _<_};
 ghost use Rattle.columns.specs.Column.{col};
@@ -31,33 +32,14 @@ pub enum Test {
     Mdq,
 }
 
-// The rows that a row's names are first looked for in. Whatever they are, the answers are the same.
-pub struct Near {
-    pub point: u32,
-    pub shipper: u32,
-}
-
-// Where nothing is known of them.
-pub const NOWHERE: Near = Near {
-    point: 0,
-    shipper: 0,
-};
-
 // The number of the first test that a row fails, 0 for none.
-pub fn row_fault(
-    source: Source,
-    counts: Counts,
-    numbers: &[usize],
-    tag: Tag,
-    row: u32,
-    near: Near,
-) -> u8
+pub fn row_fault(source: Source, counts: Counts, numbers: &[usize], tag: Tag, row: u32) -> u8
     ensures { λ r. ⌜ r ≡ fault source counts (col (now (numbers .entry))) tag row ⌝ }
 {
     if !keeps_bounds(source, counts, numbers, tag, row) {
         return 3;
     }
-    if !keeps_key(source, counts, numbers, tag, row, near) {
+    if !keeps_key(source, counts, numbers, tag, row) {
         return 5;
     }
     if !keeps_mdq(counts, numbers, tag, row) {
@@ -90,42 +72,21 @@ fn is_of_side(source: Source, number: usize) -> bool
 }
 
 // 5: a key that does not rise, or names something not listed.
-fn keeps_key(
-    source: Source,
-    counts: Counts,
-    numbers: &[usize],
-    tag: Tag,
-    row: u32,
-    near: Near,
-) -> bool
+fn keeps_key(source: Source, counts: Counts, numbers: &[usize], tag: Tag, row: u32) -> bool
     ensures { λ r. ⌜ r ≡ passes Test.Key source counts (col (now (numbers .entry))) tag row ⌝ }
 {
     if rises(counts, numbers, tag, row) {
-        return names_are_known(
-            source,
-            counts,
-            numbers,
-            tag,
-            row_place(counts, tag, row),
-            near,
-        );
+        return names_are_known(source, counts, numbers, tag, row_place(counts, tag, row));
     }
     false
 }
 
-fn names_are_known(
-    source: Source,
-    counts: Counts,
-    numbers: &[usize],
-    tag: Tag,
-    at: usize,
-    near: Near,
-) -> bool
+fn names_are_known(source: Source, counts: Counts, numbers: &[usize], tag: Tag, at: usize) -> bool
     requires { ⌜ at < 2 ^ 40 ⌝ }
     ensures { λ r. ⌜ r ≡ names-known source counts (col (now (numbers .entry))) tag at ⌝ }
 {
     match source {
-        Source::File => is_named(counts, numbers, tag, at, near),
+        Source::File => is_named(counts, numbers, tag, at),
         Source::Side(side) => true,
     }
 }
@@ -143,7 +104,7 @@ fn row_passes(test: Test, counts: Counts, numbers: &[usize], tag: Tag, row: u32)
 {
     match test {
         Test::Bounds => keeps_bounds(Source::File, counts, numbers, tag, row),
-        Test::Key => keeps_key(Source::File, counts, numbers, tag, row, NOWHERE),
+        Test::Key => keeps_key(Source::File, counts, numbers, tag, row),
         Test::Mdq => keeps_mdq(counts, numbers, tag, row),
     }
 }

@@ -8,7 +8,7 @@ ghost use Rattle.daytable.specs.Acceptance.{idle};
 ghost use Rattle.dayrows.specs.Test.{starved};
 
 // A schedule above zero, and its MDQ zero.
-fn is_idle(mdq: usize, schedule: usize) -> bool
+pub fn is_idle(mdq: usize, schedule: usize) -> bool
     ensures { λ r. ⌜ r ≡ idle mdq schedule ⌝ }
 {
     if mdq == 0 {

@@ -1,9 +1,12 @@
+pub mod BodyReading
 pub mod Breaking
 pub mod Determined
 pub mod Ending
+pub mod Following
 pub mod Fronts
+pub mod Glancing
+pub mod KindReading
 pub mod RowReading
 pub mod Running
 pub mod Runs
-pub mod Stretches
 pub mod Taking

@@ -1,14 +1,13 @@
 -- 01, "Refusal numbers": whether a field of a tag stands at a byte of a file.
-use mathlib.Core.Path.{_≡_}
 use mathlib.Core.Bool.{Bool, false, cond}
-use mathlib.Core.List.{List, _++_}
-use Prim.Native.Nat.{ℕ, _+_, _*_}
+use mathlib.Core.List.{List}
+use Prim.Native.Nat.{ℕ, _+_}
 use lib.Dec.{ltb, eqb}
-use lib.ListN.{length, take, drop, replicate}
+use lib.ListN.{length, take, drop}
 use Rattle.columns.specs.Column.{col}
 use Rattle.bigendian.specs.Number.{value}
 use Rattle.dayformat.specs.declared.form.Tag.{Tag}
-use Rattle.dayformat.specs.Format.{field-size, form, widths}
+use Rattle.dayformat.specs.Format.{field-size, form}
 
 -- the next byte is the tag's
 unfoldable pub begun : List ℕ → Tag → ℕ → Bool
@@ -21,12 +20,3 @@ broken file tag at =
     (cond (cond (eqb (col file at) (form tag .byte)) (eqb (value (take 2 (drop (at + 1) file))) (form tag .size)) false)
     (cond (ltb (length file) (at + field-size tag)) 1 0)
     2)
-
--- the widths of so many sides, names and figures, and a body that is those
-abbrev pub stretch-widths : ℕ → ℕ → ℕ → List ℕ
-stretch-widths sides names figures = replicate sides 1 ++ replicate names 2 ++ replicate figures 4
-
-pub record Stretched (tag : Tag) (sides names figures : ℕ) : Type 0 where
-  pub are : widths tag ≡ stretch-widths sides names figures
-  pub columns : form tag .columns ≡ sides + names + figures
-  pub size : form tag .size ≡ sides + 2 * names + 4 * figures

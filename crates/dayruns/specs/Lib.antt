@@ -1,3 +1,5 @@
 pub mod Field
+pub mod Glance
+pub mod Kind
 pub mod Run
 pub mod Walk

@@ -2,13 +2,13 @@
 use crate::field::begins;
 use crate::field::breaks;
 use crate::field::read_row;
-use crate::near::near_rows;
+use crate::glance::glance_at;
+use crate::names::NOWHERE;
+use crate::names::Near;
 use dayformat::Counts;
 use dayformat::Tag;
 use dayformat::form_of;
 use dayformat::row_place;
-use dayrows::NOWHERE;
-use dayrows::Near;
 use dayrows::Source;
 use dayrows::row_fault;
 ghost use Rattle.dayruns.specs.Run.{Taken, Ran};
@@ -26,35 +26,6 @@ struct Step {
     near: Near,
 }
 
-// Takes the field at a byte, whose names may be found near some rows. The row of a field that is whole goes into the numbers.
-fn take_near(
-    source: Source,
-    counts: Counts,
-    file: &[u8],
-    tag: Tag,
-    at: usize,
-    row: u32,
-    numbers: &mut [usize],
-    near: Near,
-) -> Step
-    ensures { λ r. ⌜ Taken source counts (now (file .entry)) tag at row (now (numbers .entry)) (now (numbers .exit)) (r .fault) ⌝ }
-{
-    if file.len() < at {
-        return Step { fault: 1, near };
-    }
-    let broken = breaks(file, tag, at);
-    if broken != 0 {
-        return Step {
-            fault: broken,
-            near,
-        };
-    }
-    read_row(file, tag, at + 3, numbers, row_place(counts, tag, row));
-    let found = near_rows(counts, numbers, tag, row, near);
-    let fault = row_fault(source, counts, numbers, tag, row, found);
-    Step { fault, near: found }
-}
-
 // The number that refuses the field at a byte, 0 for none. The row of a field that is whole goes into the numbers.
 pub fn take_field(
     source: Source,
@@ -67,7 +38,40 @@ pub fn take_field(
 ) -> u8
     ensures { λ r. ⌜ Taken source counts (now (file .entry)) tag at row (now (numbers .entry)) (now (numbers .exit)) r ⌝ }
 {
-    take_near(source, counts, file, tag, at, row, numbers, NOWHERE).fault
+    if file.len() < at {
+        return 1;
+    }
+    let broken = breaks(file, tag, at);
+    if broken != 0 {
+        return broken;
+    }
+    read_row(file, tag, at + 3, numbers, row_place(counts, tag, row));
+    row_fault(source, counts, numbers, tag, row)
+}
+
+// The same, at a glance where the field is seen to be sound, with its names looked for from some rows on.
+fn take_near(
+    source: Source,
+    counts: Counts,
+    file: &[u8],
+    tag: Tag,
+    at: usize,
+    row: u32,
+    numbers: &mut [usize],
+    near: Near,
+) -> Step
+    ensures { λ r. ⌜ Taken source counts (now (file .entry)) tag at row (now (numbers .entry)) (now (numbers .exit)) (r .fault) ⌝ }
+{
+    let seen = glance_at(source, counts, file, tag, at, row, numbers, near);
+    let found = seen.near;
+    if seen.sound {
+        return Step {
+            fault: 0,
+            near: found,
+        };
+    }
+    let fault = take_field(source, counts, file, tag, at, row, numbers);
+    Step { fault, near }
 }
 
 // The run of a tag's fields from a byte on. Their rows go into the numbers.

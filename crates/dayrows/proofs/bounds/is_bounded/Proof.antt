@@ -1,69 +1,104 @@
--- Each tag's columns are tested, and a meter's kinds.
+-- No number that the search has passed is beyond its bounds.
+use mathlib.Core.Path.{_≡_, ap, sym}
+use mathlib.Core.Bool.{not}
+use Prim.Native.Nat.{_+_, _-_}
+use native.Mathlib.Omega.{arith}
 use borrow.Author.Needs.{needs}
+use Rattle.columns.specs.Column.{col}
+use Rattle.columns.proofs.Firsts.{Searched, searched-none, searched-more}
+use Rattle.dayformat.specs.Format.{body, column-in, form}
+use Rattle.dayformat.proofs.Small.{small}
+use Rattle.dayrows.specs.Test.{within, bounded}
+use Rattle.dayrows.proofs.Searches.{not-clear, clear}
+use Rattle.dayrows.proofs.Within.{below-low, above-high, between}
 use Rattle.dayrows.proofs.bounds.is_bounded.Statement.{statement}
 use Rattle.dayrows.proofs.bounds.is_bounded.Tie as tie
 
-enum-told : tie.Need-enum-told
-enum-told c = search needs
+abbrev Inv-loop : tie.InvT-loop
+Inv-loop numbers tag at columns place₀ place =
+    (columns ≡ form tag .columns) × Searched (λ i. not (within (column-in (body tag) i) (col numbers (at + i)))) columns place
 
-columns-are-bounded-requires : tie.Need-columns-are-bounded-requires
-columns-are-bounded-requires c κs = search needs
+abbrev μ-loop : tie.MeasureT-loop
+μ-loop numbers tag at columns place₀ place = columns - place
 
-enum-told-2 : tie.Need-enum-told-2
-enum-told-2 c = search needs
+form-of-requires : tie.Need-form-of-requires Inv-loop μ-loop
+form-of-requires c κs = search needs
 
-columns-are-bounded-requires-2 : tie.Need-columns-are-bounded-requires-2
-columns-are-bounded-requires-2 c κs = search needs
+loop-holds : tie.Need-loop-holds Inv-loop μ-loop
+loop-holds c = (ap (λ form. form .columns) (c .form-of .ensures), searched-none _ _)
 
-enum-told-3 : tie.Need-enum-told-3
-enum-told-3 c = search needs
+column-at-requires : tie.Need-column-at-requires Inv-loop μ-loop
+column-at-requires c κs = search needs
 
-columns-are-bounded-requires-3 : tie.Need-columns-are-bounded-requires-3
-columns-are-bounded-requires-3 c κs = search needs
+add-number-of : tie.Need-add-number-of Inv-loop μ-loop
+add-number-of c =
+    let loop = c .before .before in
+    omega (arith, small (loop .before .before .before .args .tag) .columns, loop .loop .inv .0)
 
-enum-told-4 : tie.Need-enum-told-4
-enum-told-4 c = search needs
+number-of-requires : tie.Need-number-of-requires Inv-loop μ-loop
+number-of-requires c κs = search needs
 
-columns-are-bounded-requires-4 : tie.Need-columns-are-bounded-requires-4
-columns-are-bounded-requires-4 c κs = search needs
+returns : tie.Need-returns Inv-loop μ-loop
+unfolding bounded
+returns c =
+    let number = c .before .before in
+    let column = number .before .column-at in
+    let turn = number .before .before in
+    let inv = turn .before .loop .inv in
+    rw (← inv .0)
+    (sym
+    (not-clear _ _ _ (inv .1) (turn .loop-test .taken)
+    (rw (← column .ensures, ← number .number-of .ensures) (below-low (column .result) _ (c .if1 .taken)))))
 
-enum-told-5 : tie.Need-enum-told-5
-enum-told-5 c = search needs
+returns-2 : tie.Need-returns-2 Inv-loop μ-loop
+unfolding bounded
+returns-2 c =
+    let low = c .before .before in
+    let number = low .before .before in
+    let column = number .before .column-at in
+    let turn = number .before .before in
+    let inv = turn .before .loop .inv in
+    rw (← inv .0)
+    (sym
+    (not-clear _ _ _ (inv .1) (turn .loop-test .taken)
+    (rw (← column .ensures, ← number .number-of .ensures) (above-high (column .result) _ (low .if1 .left) (c .if2 .taken)))))
 
-meter-is-bounded-requires : tie.Need-meter-is-bounded-requires
-meter-is-bounded-requires c κs = search needs
+add-place : tie.Need-add-place Inv-loop μ-loop
+add-place c = search needs
 
-returns : tie.Need-returns
-returns c = rw (c .before .enum-told .given .1) (c .columns-are-bounded .ensures)
+loop-less : tie.Need-loop-less Inv-loop μ-loop
+loop-less c = search needs
 
-returns-2 : tie.Need-returns-2
-returns-2 c = rw (c .before .enum-told2 .given .1) (c .columns-are-bounded2 .ensures)
+loop-again : tie.Need-loop-again Inv-loop μ-loop
+loop-again c =
+    let low = c .before .before in
+    let number = low .before .before in
+    let column = number .before .column-at in
+    let turn = number .before .before in
+    let inv = turn .before .loop .inv in (
+      inv .0,
+      searched-more _ _ _ (inv .1) (turn .loop-test .taken)
+          (rw (← column .ensures, ← number .number-of .ensures) (between (column .result) _ (low .if1 .left) (c .if2 .left))),
+    )
 
-returns-3 : tie.Need-returns-3
-returns-3 c = rw (c .before .enum-told3 .given .1) (c .columns-are-bounded3 .ensures)
-
-returns-4 : tie.Need-returns-4
-returns-4 c = rw (c .before .enum-told4 .given .1) (c .columns-are-bounded4 .ensures)
-
-returns-5 : tie.Need-returns-5
-returns-5 c = rw (c .before .enum-told5 .given .1) (c .meter-is-bounded .ensures)
+returns-3 : tie.Need-returns-3 Inv-loop μ-loop
+unfolding bounded
+returns-3 c = let inv = c .before .loop .inv in rw (← inv .0) (sym (clear _ _ _ (inv .1) (c .loop-test .left)))
 
 pub is-bounded-spec : {M : Type 1} → statement M
 is-bounded-spec =
     tie.close
     (tie.spec
-    enum-told
-    columns-are-bounded-requires
-    enum-told-2
-    columns-are-bounded-requires-2
-    enum-told-3
-    columns-are-bounded-requires-3
-    enum-told-4
-    columns-are-bounded-requires-4
-    enum-told-5
-    meter-is-bounded-requires
+    Inv-loop
+    μ-loop
+    form-of-requires
+    loop-holds
+    column-at-requires
+    add-number-of
+    number-of-requires
     returns
     returns-2
-    returns-3
-    returns-4
-    returns-5)
+    add-place
+    loop-less
+    loop-again
+    returns-3)

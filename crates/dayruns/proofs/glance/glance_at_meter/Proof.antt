@@ -1,0 +1,131 @@
+-- A row within its bounds that follows the one before is sound where its shipper is found.
+use native.Mathlib.Omega.{arith}
+use borrow.Author.Tests.{not-false, ltb-true}
+use Rattle.dayformat.specs.declared.form.Tag.the-variants.{Meter}
+use Rattle.dayrows.proofs.Sound.{listed-shipper}
+use Rattle.dayruns.specs.Glance.{Ready}
+use Rattle.dayruns.proofs.Breaking.{Whole, broken-none}
+use Rattle.dayruns.proofs.Glancing.{unready, unseen, seen}
+use borrow.Author.Needs.{needs}
+use Rattle.dayruns.proofs.glance.glance_at_meter.Statement.{statement}
+use Rattle.dayruns.proofs.glance.glance_at_meter.Tie as tie
+
+abbrev start-of : tie.Else1 → tie.Start
+start-of c = c .before .before .before .before .before
+
+ready : (c : tie.Else1)
+    → Ready (start-of c .args .source) (start-of c .args .counts) (start-of c .args .file .now) Meter
+    (start-of c .args .at) (start-of c .args .row) (start-of c .args .numbers .now)
+ready c = let asked = c .before .is-ready in asked .ensures (not-false (asked .result) (c .if1 .left))
+
+whole : (c : tie.Else1) → Whole (start-of c .args .file .now) Meter (start-of c .args .at)
+whole c = broken-none (start-of c .args .file .now) Meter (start-of c .args .at) (ready c .whole)
+
+is-ready-requires : tie.Need-is-ready-requires
+is-ready-requires c κs = search needs
+
+same-length : tie.Need-same-length
+same-length c = search needs
+
+returns : tie.Need-returns
+returns c =
+    let args = c .before .before .before .before .before .args in
+    unready (args .source) (args .counts) (args .file .now) Meter (args .at) (args .row) (args .numbers .now)
+
+row-place-requires : tie.Need-row-place-requires
+row-place-requires c κs = search needs
+
+add-read-meter : tie.Need-add-read-meter
+add-read-meter c = let start = start-of (c .before) in omega (arith, whole (c .before) .there, start .good .1 .1 .0 .0)
+
+read-meter-requires : tie.Need-read-meter-requires
+read-meter-requires c κs =
+    let place = c .before in
+    (omega (arith, whole (place .before) .there), omega (arith, ready (place .before) .room, place .row-place .ensures .0))
+
+same-length-2 : tie.Need-same-length-2
+same-length-2 c = search needs
+
+returns-2 : tie.Need-returns-2
+returns-2 c =
+    let read = c .before .before .before in
+    let place = read .before .before in
+    let args = start-of (place .before) .args in
+    unseen (args .source) (args .counts) (args .file .now) Meter (args .at) (args .row) (args .numbers .now)
+    (ready (place .before)) (place .row-place .ensures .0) (read .read-meter .ensures)
+
+is-next-requires : tie.Need-is-next-requires
+is-next-requires c κs =
+    let read = c .before .before .before .before in
+    omega (arith, ready (read .before .before .before) .room, read .read-meter .kept .1 .1 .0)
+
+same-length-3 : tie.Need-same-length-3
+same-length-3 c = search needs
+
+returns-3 : tie.Need-returns-3
+returns-3 c =
+    let read = c .before .before .before .before .before .before in
+    let place = read .before .before in
+    let args = start-of (place .before) .args in
+    unseen (args .source) (args .counts) (args .file .now) Meter (args .at) (args .row) (args .numbers .now)
+    (ready (place .before)) (place .row-place .ensures .0) (read .read-meter .ensures)
+
+cast-shippers : tie.Need-cast-shippers
+cast-shippers c = search needs
+
+mul-shipper-from : tie.Need-mul-shipper-from
+mul-shipper-from c = search needs
+
+slice-reshared-read-shipper-from : tie.Need-slice-reshared-read-shipper-from
+slice-reshared-read-shipper-from c =
+    let read = c .before .before .before .before .before .before .before .before in
+    let place = read .before .before in
+    omega (arith, ready (place .before) .room, place .row-place .ensures .0, read .read-meter .kept .1 .1 .0)
+
+shipper-from-requires : tie.Need-shipper-from-requires
+shipper-from-requires c κs =
+    let read = c .before .before .before .before .before .before .before .before in
+    omega (arith, ready (read .before .before .before) .room, read .read-meter .kept .1 .1 .0)
+
+same-length-4 : tie.Need-same-length-4
+same-length-4 c = search needs
+
+returns-4 : tie.Need-returns-4
+returns-4 c =
+    let next = c .before .before .before in
+    let kept = next .before .before .before in
+    let read = kept .before .before .before in
+    let place = read .before .before in
+    let args = start-of (place .before) .args in
+    let follows = next .before .is-next .ensures (not-false (next .before .is-next .result) (next .if3 .left)) in
+    seen (args .source) (args .counts) (args .file .now) Meter (args .at) (args .row) (args .numbers .now)
+    (ready (place .before)) (place .row-place .ensures .0) (read .read-meter .ensures)
+    (not-false (read .read-meter .result) (kept .if2 .left))
+    (λ yes.
+    let found = ltb-true _ _ yes in (
+      follows .0,
+      follows .1,
+      listed-shipper (args .counts) _ (c .shipper-from .result) _ found (c .shipper-from .ensures found),
+    ))
+
+pub glance-at-meter-spec : {M : Type 1} → statement M
+glance-at-meter-spec =
+    tie.close
+    (tie.spec
+    is-ready-requires
+    same-length
+    returns
+    row-place-requires
+    add-read-meter
+    read-meter-requires
+    same-length-2
+    returns-2
+    is-next-requires
+    same-length-3
+    returns-3
+    cast-shippers
+    mul-shipper-from
+    slice-reshared-read-shipper-from
+    shipper-from-requires
+    same-length-4
+    returns-4)
