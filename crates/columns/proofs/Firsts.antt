@@ -1,7 +1,7 @@
 -- The first marked row: how a search finds it, and what it says of the rows.
 use mathlib.Core.Path.{_≡_, refl, ap, sym, _∙_}
 use mathlib.Core.Logic.{⊎-elim, _⊎_, inl, inr}
-use mathlib.Core.Bool.{Bool, true, false, cond}
+use mathlib.Core.Bool.{Bool, true, false, cond, true≢false}
 use Prim.Native.Nat.{ℕ, zero, suc, _+_, _≤_, _<_}
 use native.Mathlib.Nat.{le-antisymm, eq-or-lt-of-le}
 use borrow.Author.Count.{below-more}
@@ -103,3 +103,10 @@ module _ (p : ℕ → Bool) (n : ℕ) where
 
     pub ends : n ≤ row → row ≡ first n p
     ends l = le-antisymm (S .inside) l ∙ sym (first-none p n (λ k h. S .passed k (omega arith)))
+
+-- ---- a loop that looks at every row, and only ever clears its flag
+-- a test that only takes away: what is kept after it was kept before it and passed
+pub kept-passed : {Failed Passed : Type 0} {before after : Bool} → (Failed × (after ≡ false)) ⊎ (Passed × (after ≡ before))
+    → after ≡ true → Passed × (before ≡ true)
+kept-passed (inl failed) e = absurd (true≢false (sym e ∙ failed .1))
+kept-passed (inr passed) e = (passed .0, sym (passed .1) ∙ e)

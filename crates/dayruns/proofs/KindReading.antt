@@ -1,7 +1,6 @@
 -- So many numbers of one kind, read and tested one after another.
 use mathlib.Core.Path.{_≡_, sym, _∙_}
-use mathlib.Core.Bool.{Bool, true, false, true≢false}
-use mathlib.Core.Logic.{_⊎_, inl, inr}
+use mathlib.Core.Bool.{Bool, true}
 use mathlib.Core.List.{List}
 use Prim.Native.Nat.{ℕ, zero, suc, _+_, _-_, _*_, _≤_, _<_, min}
 use native.Mathlib.Nat.{zero-mul, mul-le-mul-right}
@@ -36,12 +35,6 @@ number-of-file many width place at file l = number-of-list many width place (dro
 -- where the bytes of all are there, so are those of the one at a place
 pub number-there : (at many width place : ℕ) {long : ℕ} → place < many → at + many * width ≤ long → at + place * width + width ≤ long
 number-there at many width place l there = omega (arith, mul-le-mul-right {m = suc place} {n = many} width l, there)
-
--- a test that only takes away: what is kept after it was kept before it and passed
-pub kept-passed : {Failed Passed : Type 0} {before after : Bool} → (Failed × (after ≡ false)) ⊎ (Passed × (after ≡ before))
-    → after ≡ true → Passed × (before ≡ true)
-kept-passed (inl failed) e = absurd (true≢false (sym e ∙ failed .1))
-kept-passed (inr passed) e = (passed .0, sym (passed .1) ∙ e)
 
 -- where the number at a place begins
 abbrev byte-of : ℕ → ℕ → ℕ → ℕ

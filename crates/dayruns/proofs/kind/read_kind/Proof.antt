@@ -3,8 +3,9 @@ use mathlib.Core.Path.{refl}
 use Prim.Native.Nat.{_+_, _-_, _*_, _≤_}
 use native.Mathlib.Omega.{arith}
 use lib.ListN.{length}
+use Rattle.columns.proofs.Firsts.{kept-passed}
 use borrow.Author.Needs.{needs}
-use Rattle.dayruns.proofs.KindReading.{number-there, kept-passed, Reading, reading-none, reading-next, reading-all}
+use Rattle.dayruns.proofs.KindReading.{number-there, Reading, reading-none, reading-next, reading-all}
 use Rattle.dayruns.proofs.kind.read_kind.Statement.{statement}
 use Rattle.dayruns.proofs.kind.read_kind.Tie as tie
 

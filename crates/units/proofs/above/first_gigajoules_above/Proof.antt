@@ -1,4 +1,4 @@
--- Every row that the search has passed is within the bound, so the row that it stops at is the first above it.
+-- Where not all rows keep the bound, those that the search has passed do, so the row that it stops at is the first above it.
 use Prim.Native.Nat.{_-_}
 use borrow.Author.Needs.{needs}
 use borrow.Author.Tests.{lt-ltb, le-ltb}
@@ -15,19 +15,25 @@ Inv-loop figures most row₀ row = Searched (λ i. ltb (most .0) (col figures i)
 abbrev μ-loop : tie.MeasureT-loop
 μ-loop figures most row₀ row = length figures - row
 
+gigajoules-keep-requires : tie.Need-gigajoules-keep-requires Inv-loop μ-loop
+gigajoules-keep-requires c κs = search needs
+
+returns : tie.Need-returns Inv-loop μ-loop
+returns c = c .before .gigajoules-keep .ensures (c .if1 .taken)
+
 loop-holds : tie.Need-loop-holds Inv-loop μ-loop
 loop-holds c = searched-none _ _
 
-mul-if1 : tie.Need-mul-if1 Inv-loop μ-loop
-mul-if1 c = search needs
+mul-if2 : tie.Need-mul-if2 Inv-loop μ-loop
+mul-if2 c = search needs
 
-shared-slice-read-if1 : tie.Need-shared-slice-read-if1 Inv-loop μ-loop
-shared-slice-read-if1 c = search needs
+shared-slice-read-if2 : tie.Need-shared-slice-read-if2 Inv-loop μ-loop
+shared-slice-read-if2 c = search needs
 
-returns : tie.Need-returns Inv-loop μ-loop
-returns c =
+returns-2 : tie.Need-returns-2 Inv-loop μ-loop
+returns-2 c =
     let turn = c .before .before .before in
-    stops _ _ _ (turn .before .loop .inv) (turn .loop-test .taken) (lt-ltb _ _ (c .if1 .taken))
+    stops _ _ _ (turn .before .loop .inv) (turn .loop-test .taken) (lt-ltb _ _ (c .if2 .taken))
 
 add-row : tie.Need-add-row Inv-loop μ-loop
 add-row c = search needs
@@ -38,10 +44,10 @@ loop-less c = search needs
 loop-again : tie.Need-loop-again Inv-loop μ-loop
 loop-again c =
     let turn = c .before .before .before in
-    searched-more _ _ _ (turn .before .loop .inv) (turn .loop-test .taken) (le-ltb _ _ (c .if1 .left))
+    searched-more _ _ _ (turn .before .loop .inv) (turn .loop-test .taken) (le-ltb _ _ (c .if2 .left))
 
-returns-2 : tie.Need-returns-2 Inv-loop μ-loop
-returns-2 c = ends _ _ _ (c .before .loop .inv) (c .loop-test .left)
+returns-3 : tie.Need-returns-3 Inv-loop μ-loop
+returns-3 c = ends _ _ _ (c .before .loop .inv) (c .loop-test .left)
 
 pub first-gigajoules-above-spec : {M : Type 1} → statement M
 first-gigajoules-above-spec =
@@ -49,11 +55,13 @@ first-gigajoules-above-spec =
     (tie.spec
     Inv-loop
     μ-loop
-    loop-holds
-    mul-if1
-    shared-slice-read-if1
+    gigajoules-keep-requires
     returns
+    loop-holds
+    mul-if2
+    shared-slice-read-if2
+    returns-2
     add-row
     loop-less
     loop-again
-    returns-2)
+    returns-3)
