@@ -22,7 +22,7 @@ pub const NOWHERE: Near = Near {
     shipper: 0,
 };
 
-// The first shipper's row, from one on, that has a name, or one past the last.
+// The first shipper's row, from one on, that has a name, or a row past the last.
 pub fn shipper_from(numbers: &[usize], rows: usize, from: usize, name: usize) -> usize
     requires { ⌜ rows * 6 ≤ length (now numbers) ⌝ }
     ensures { λ r. ⌜ (r < rows → col (now (numbers .entry)) (r * 6) ≡ name) ⌝ }
@@ -37,7 +37,7 @@ pub fn shipper_from(numbers: &[usize], rows: usize, from: usize, name: usize) ->
     row
 }
 
-// The first point's row, from one on, that has a side and a name, or one past the last.
+// The first point's row, from one on, that has a side and a name, or a row past the last.
 fn point_from(
     numbers: &[usize],
     start: usize,
