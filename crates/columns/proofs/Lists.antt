@@ -101,6 +101,10 @@ filling-past f row lent list F h i k = ap (λ m. col m i) (F .front) ∙ past-se
 pub take-sets : (n : ℕ) (f : ℕ → ℕ) (l : List ℕ) → n ≤ length l → take n (sets l 0 (listed n f)) ≡ listed n f
 take-sets n f l h = ap (take n) (sets-front n f l h) ∙ take-at (listed n f) (drop n l) n (length-listed n f)
 
+-- and what follows the rows written is as it was
+pub drop-sets : (n : ℕ) (f : ℕ → ℕ) (l : List ℕ) → n ≤ length l → drop n (sets l 0 (listed n f)) ≡ drop n l
+drop-sets n f l h = ap (drop n) (sets-front n f l h) ∙ drop-at (listed n f) (drop n l) n (length-listed n f)
+
 -- ---- the part that is filled, as a list of its own
 module _ (n : ℕ) (f : ℕ → ℕ) (lent made : List ℕ) (room : n ≤ length lent) (is : made ≡ sets lent 0 (listed n f)) where
   pub made-part : take n made ≡ listed n f
@@ -115,7 +119,6 @@ module _ (n : ℕ) (f : ℕ → ℕ) (lent made : List ℕ) (room : n ≤ length
 -- the rows written last stand
 pub sets-again : (n : ℕ) (f g : ℕ → ℕ) (l : List ℕ) → n ≤ length l → sets (sets l 0 (listed n f)) 0 (listed n g) ≡ sets l 0 (listed n g)
 sets-again n f g l h =
-    let lead = sets-front n g (sets l 0 (listed n f)) (rw length-sets-listed h) in
-    let rest : drop n (sets l 0 (listed n f)) ≡ drop n l =
-    ap (drop n) (sets-front n f l h) ∙ drop-at (listed n f) (drop n l) n (length-listed n f)
-    in lead ∙ ap (λ r. listed n g ++ r) rest ∙ sym (sets-front n g l h)
+    sets-front n g (sets l 0 (listed n f)) (rw length-sets-listed h)
+    ∙ ap (λ rest. listed n g ++ rest) (drop-sets n f l h)
+    ∙ sym (sets-front n g l h)

@@ -11,3 +11,4 @@ pub mod Accepting
 pub mod Answers
 pub mod Determined
 pub mod Promises
+pub mod Decided

@@ -1,14 +1,11 @@
 -- Demand 3, for every table that the opened routine accepts: a short class ends the day, and each round's own laws do the rest.
-use mathlib.Core.Path.{_≡_, refl, ap, sym, _∙_}
-use mathlib.Core.List.{List}
+use mathlib.Core.Path.{_≡_, refl}
 use mathlib.Core.Bool.{Bool, true, false, cond}
 use Prim.Native.Nat.{ℕ, _≤_, _<_}
 use native.Mathlib.Nat.{le-antisymm}
 use native.Mathlib.Omega.{arith}
-use lib.ListN.{length}
 use Rattle.columns.specs.Column.{col}
 use Rattle.units.specs.declared.refusal.Check.{Check}
-use Rattle.units.specs.Refusals
 use Rattle.dayshares.specs.Class.{full}
 use Rattle.daytable.specs.Table.{Table, rows}
 use Rattle.dayshares.specs.Given.{
@@ -25,12 +22,8 @@ use Rattle.dayshares.specs.Given.{
   left,
 }
 use Rattle.daytable.specs.Acceptance.{check}
-use Rattle.dayshares.specs.declared.Shares.{Shares}
-use Rattle.dayshares.specs.declared.Day.{Day}
-use Rattle.dayshares.specs.Answer.{shares, answer, number, figures-of, Answered}
 use Rattle.dayshares.specs.Promise.{Promise}
 use Rattle.daytable.proofs.Accepting.{Accepting, accepting}
-use Rattle.daytable.proofs.Numbered.{check-numbered}
 use Rattle.dayshares.specs.Leaves.{DayReady}
 use Rattle.dayshares.proofs.Accepting.{ready}
 use Rattle.dayshares.proofs.Classes.{class-le, class-fits, class-held, class-short, full-rows, short-row}
@@ -112,7 +105,7 @@ module _ (T : Table) (firm-room auction-room lower-tier-room : ℕ) (A : Accepti
 
 -- every accepted table keeps demand 3
 pub promises : (T : Table) (firm-room auction-room lower-tier-room : ℕ)
-    → check T firm-room auction-room lower-tier-room ≡ Check.Accepted → Promise T
+    → check T firm-room auction-room lower-tier-room ≡ Check.Accepted → Promise T (firm-given T) (auction-given T) (lower-tier-given T) (left T)
 promises T firm-room auction-room lower-tier-room accepted =
     let A = accepting T firm-room auction-room lower-tier-room accepted in
     let R = ready T firm-room auction-room lower-tier-room A in
@@ -134,18 +127,3 @@ promises T firm-room auction-room lower-tier-room accepted =
       firm-least =
           firm-floor (firm T) (R .firm .weights) (R .firm .needs) (λ i l. omega arith);
     }
-
--- ---- so does every answer of 01's number 0, and its figures are the shares
-number-is : (found : Check) (s : Shares) → number (answer found s) ≡ Refusals.number found
-number-is Check.Accepted s = refl
-number-is (Check.Refused x) s = refl
-
-pub answer-promises : {T : Table} {firm-lent auction-lent lower-tier-lent : List ℕ} {day : Day}
-    {firm-after auction-after lower-tier-after : List ℕ}
-    → Answered T firm-lent auction-lent lower-tier-lent day firm-after auction-after lower-tier-after
-    → number day ≡ 0 → (figures-of day ≡ shares T) × Promise T
-answer-promises {T} {firm-lent} {auction-lent} {lower-tier-lent} A none =
-    let found = check T (length firm-lent) (length auction-lent) (length lower-tier-lent) in
-    let accepted : found ≡ Check.Accepted =
-    check-numbered T _ _ _ (sym (number-is found (shares T)) ∙ ap number (sym (A .answers)) ∙ none)
-    in (ap figures-of (A .answers) ∙ rw accepted, promises T _ _ _ accepted)

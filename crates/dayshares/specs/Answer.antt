@@ -7,6 +7,7 @@ use lib.Seq.{sets}
 use Rattle.columns.specs.Column.{listed}
 use Rattle.units.specs.declared.refusal.Check.{Check}
 use Rattle.units.specs.Refusals.{accepted-or}
+use Rattle.units.specs.Verdict.{Verdict, accepting, refusing}
 use Rattle.daytable.specs.Table.{Table, rows}
 use Rattle.daytable.specs.Acceptance.{check}
 use Rattle.dayshares.specs.declared.Shares.{Shares}
@@ -47,25 +48,18 @@ abbrev pub answer : Check → Shares → Day
 answer Check.Accepted s = Day.Shared s
 answer (Check.Refused x) s = Day.Refused x
 
--- of an answer, 01's number (0 where accepted), place, and figures (zero where refused)
-abbrev pub number : Day → ℕ
-number (Day.Shared s) = 0
-number (Day.Refused x) = x .number
-
-abbrev pub place : Day → ℕ
-place (Day.Shared s) = 0
-place (Day.Refused x) = x .place
-
-abbrev pub figures-of : Day → Shares
-figures-of (Day.Shared s) = s
-figures-of (Day.Refused x) =
-    record {
+-- 01's number, place and figures of each case
+abbrev pub verdict : Day → Verdict Shares
+verdict (Day.Shared s) = accepting s
+verdict (Day.Refused x) =
+    refusing x
+    (record {
       levels = record { one = 0; two = 0; three = 0; auction = 0; «lower_tier» = 0 };
       firm = record { 0 = 0 };
       auction = record { 0 = 0 };
       «lower_tier» = record { 0 = 0 };
       left = record { 0 = 0 };
-    }
+    })
 
 -- a lent list afterwards: a class's shares at its front where accepted, as it was where refused
 abbrev pub leaves : Check → ℕ → (ℕ → ℕ) → List ℕ → List ℕ

@@ -3,3 +3,4 @@ pub mod Searches
 pub mod Accepting
 pub mod Determined
 pub mod Answers
+pub mod Decided

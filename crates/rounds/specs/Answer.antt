@@ -10,6 +10,7 @@ use Rattle.columns.specs.Sum.{sum}
 use Rattle.units.specs.declared.refusal.Check.{Check}
 use Rattle.units.specs.Bound.{most-capacity, most-gigajoules, most-rows}
 use Rattle.units.specs.Refusals.{_then_, keep, within, accepted-or}
+use Rattle.units.specs.Verdict.{Verdict, accepting, refusing}
 use Rattle.sharing.specs.Round.{level, shares}
 use Rattle.rounds.specs.declared.Given.{Given}
 use Rattle.rounds.specs.declared.Round.{Round}
@@ -37,18 +38,10 @@ abbrev pub answer : Check → Given → Round
 answer Check.Accepted g = Round.Shared g
 answer (Check.Refused x) g = Round.Refused x
 
--- of an answer, 01's number (0 where accepted), place, and figures (zero where refused)
-abbrev pub number : Round → ℕ
-number (Round.Shared g) = 0
-number (Round.Refused x) = x .number
-
-abbrev pub place : Round → ℕ
-place (Round.Shared g) = 0
-place (Round.Refused x) = x .place
-
-abbrev pub figures : Round → Given
-figures (Round.Shared g) = g
-figures (Round.Refused x) = record { level = 0; total = record { 0 = 0 } }
+-- 01's number, place and figures of each case
+abbrev pub verdict : Round → Verdict Given
+verdict (Round.Shared g) = accepting g
+verdict (Round.Refused x) = refusing x (record { level = 0; total = record { 0 = 0 } })
 
 -- the statement of `share_round`: its answer, and the lent list before and after
 pub record Answered (c : ℕ) (ws qs lent : List ℕ) (round : Round) (after : List ℕ) : Type 0 where

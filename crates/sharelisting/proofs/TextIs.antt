@@ -15,7 +15,7 @@ use Rattle.dayshares.specs.declared.Day.{Day as DayShares}
 use Rattle.dayshares.specs.declared.Day.the-variants as DayShares
 use Rattle.dayshares.specs.declared.Shares.{Shares}
 use Rattle.dayshares.specs.Given.{firm-given, auction-given, lower-tier-given}
-use Rattle.dayshares.specs.Answer.{shares, figures-of}
+use Rattle.dayshares.specs.Answer.{shares, verdict}
 use Rattle.dayformat.specs.declared.day.Day.{Day}
 use Rattle.dayformat.specs.declared.form.Tag.the-variants.{Shipper}
 use Rattle.dayformat.specs.Layout.{count}
@@ -67,7 +67,7 @@ module _ (day : Day) (numbers : List ℕ) (S : Sound day numbers) {firm auction 
       ++ shipper-lines (count (day .counts) Shipper) (shipper-of (day .counts) (col numbers)) (col firm) (col auction) (col lower-tier)
       ≡ shares-text day (col numbers)
   text-is v e =
-      let v-is : v ≡ shares T = ap figures-of (sym e ∙ shared) in
+      let v-is : v ≡ shares T = ap (λ day. verdict day .figures) (sym e ∙ shared) in
       ap₂ (λ x y. x ++ y) (ap (λ v. head-line (day .head .day) (v .firm .0) (v .left .0)) v-is)
       (joined-same (count (day .counts) Shipper) _ _
       (λ row l.

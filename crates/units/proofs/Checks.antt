@@ -20,6 +20,10 @@ use Rattle.units.proofs.Aboves.{none-above}
 pub no-acceptance : {A : Type 0} {x : Refusal} → Refused x ≡ Accepted → A
 no-acceptance e = let z : _≡_ {A = ℕ} 0 1 = cc in absurd (omega arith)
 
+-- and one refusal is one
+pub refusal-is : {x y : Refusal} → Refused x ≡ Refused y → x ≡ y
+refusal-is e = cc
+
 -- ---- from acceptance
 pub both-accepted : (a b : Check) → (a then b) ≡ Accepted → (a ≡ Accepted) × (b ≡ Accepted)
 unfolding _then_

@@ -1,4 +1,4 @@
 pub mod Aboves
 pub mod Checks
 pub mod Determined
-pub mod Numbered
+pub mod Verdicts

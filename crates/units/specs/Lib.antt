@@ -2,3 +2,4 @@ pub mod Unit
 pub mod Bound
 pub mod Above
 pub mod Refusals
+pub mod Verdict

@@ -21,15 +21,6 @@ at-row number row = record { number = number; place = row }
 abbrev pub at-byte : ℕ → ℕ → Refusal
 at-byte number byte = record { number = number; place = byte }
 
--- of what a test finds, 01's number (0 where accepted) and place
-abbrev pub number : Check → ℕ
-number Accepted = 0
-number (Refused x) = x .number
-
-abbrev pub place : Check → ℕ
-place Accepted = 0
-place (Refused x) = x .place
-
 -- x where the input is accepted, y where it is refused
 abbrev pub accepted-or : {X : Type 0} → Check → X → X → X
 accepted-or Accepted x y = x

@@ -1,0 +1,24 @@
+-- The tests decide an answer of `share_round`: number 0 exactly where they accept, zeros where they refuse.
+use mathlib.Core.Path.{refl}
+use mathlib.Core.List.{List}
+use Prim.Native.Nat.{ℕ}
+use lib.ListN.{length}
+use Rattle.units.specs.Verdict.{Decided}
+use Rattle.units.proofs.Verdicts.{AllNumbered, none, _and_, kept-by, cleared-by, decided}
+use Rattle.rounds.specs.declared.Round.{Round}
+use Rattle.rounds.specs.Answer.{check, given, answer, verdict, Answered}
+
+pub round-numbered : (c : ℕ) (ws qs : List ℕ) (room : ℕ) → AllNumbered (check c ws qs room)
+unfolding check
+round-numbered c ws qs room =
+    none
+    and kept-by _ 9 tt tt
+    and kept-by _ 3 tt tt
+    and kept-by _ 3 tt tt
+    and cleared-by _ _ 3 tt tt
+    and cleared-by _ _ 3 tt tt
+    and kept-by _ 7 tt tt
+
+pub round-decided : {c : ℕ} {ws qs lent after : List ℕ} {round : Round} → Answered c ws qs lent round after
+    → Decided (check c ws qs (length lent)) (given c ws qs) (record { level = 0; total = record { 0 = 0 } }) (verdict round)
+round-decided {c} {ws} {qs} {lent} A = decided answer verdict refl (λ refusal. refl) (round-numbered c ws qs (length lent)) (A .answers)

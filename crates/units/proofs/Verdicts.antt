@@ -1,0 +1,88 @@
+-- A chain of tests refuses by 01's numbers alone, so an answer's number is 0 exactly where they all accept.
+use mathlib.Core.Path.{_≡_, refl, sym, _∙_, ap}
+use mathlib.Core.Bool.{Bool, true, false, cond}
+use Prim.Native.Nat.{ℕ, _<_}
+use native.Mathlib.Omega.{arith}
+use borrow.Author.Tests.{leb-false}
+use lib.Dec.{T, leb, lit≤}
+use Rattle.units.specs.declared.refusal.Refusal.{Refusal}
+use Rattle.units.specs.declared.refusal.Check.{Check}
+use Rattle.units.specs.declared.refusal.Check.the-variants.{Accepted, Refused}
+use Rattle.units.specs.Refusals.{plain, at-row, _then_, keep, clear}
+use Rattle.units.specs.Verdict.{Verdict, accepting, refusing, of-check, Numbered, Decided}
+use Rattle.units.proofs.Checks.{no-acceptance, refusal-is}
+
+-- ---- what every refusal of a chain has
+abbrev pub Refuses : (Refusal → Type 0) → Check → Type 0
+Refuses P found = (refusal : Refusal) → found ≡ Refused refusal → P refusal
+
+module _ (P : Refusal → Type 0) where
+  pub refuses-none : Refuses P Accepted
+  refuses-none refusal e = no-acceptance (sym e)
+
+  -- a later test is looked at only where the earlier ones accept
+  pub refuses-then : (a b : Check) → Refuses P a → (a ≡ Accepted → Refuses P b) → Refuses P (a then b)
+  unfolding _then_
+  refuses-then Accepted b A B = B refl
+  refuses-then (Refused x) b A B = A
+
+  pub refuses-keep : (kept : Bool) (number : ℕ) → P (plain number) → Refuses P (keep kept number)
+  unfolding keep
+  refuses-keep true number p refusal e = no-acceptance (sym e)
+  refuses-keep false number p refusal e = rw (← refusal-is e) p
+
+  pub refuses-clear : (rows found number : ℕ) → (found < rows → P (at-row number found)) → Refuses P (clear rows found number)
+  unfolding clear
+  refuses-clear rows found number p = by (leb rows found) refl
+    where
+      by : (b : Bool) → leb rows found ≡ b → Refuses P (cond b Accepted (Refused (at-row number found)))
+      by true h refusal e = no-acceptance (sym e)
+      by false h refusal e = rw (← refusal-is e) (p (leb-false rows found h))
+
+-- ---- 01's numbers
+abbrev pub AllNumbered : Check → Type 0
+AllNumbered = Refuses Numbered
+
+numbered : {number place : ℕ} → T (leb 1 number) → T (leb number 11) → Numbered (record { number = number; place = place })
+numbered least most = record { least = lit≤ least; most = lit≤ most }
+
+pub none : AllNumbered Accepted
+none = refuses-none Numbered
+
+infixl 20 _and_
+pub _and_ : {a b : Check} → AllNumbered a → AllNumbered b → AllNumbered (a then b)
+_and_ {a} {b} A B = refuses-then Numbered a b A (λ accepted. B)
+
+pub kept-by : (kept : Bool) (number : ℕ) → T (leb 1 number) → T (leb number 11) → AllNumbered (keep kept number)
+kept-by kept number least most = refuses-keep Numbered kept number (numbered least most)
+
+pub cleared-by : (rows found number : ℕ) → T (leb 1 number) → T (leb number 11) → AllNumbered (clear rows found number)
+cleared-by rows found number least most = refuses-clear Numbered rows found number (λ inside. numbered least most)
+
+-- ---- answers
+-- an answer made of what the tests find and of figures, where its verdict is by cases as 01 has it
+pub decided : {Answer Figures : Type 0} {worked-out zeros : Figures} (answer : Check → Figures → Answer)
+    (verdict : Answer → Verdict Figures)
+    → verdict (answer Accepted worked-out) ≡ accepting worked-out
+    → ((refusal : Refusal) → verdict (answer (Refused refusal) worked-out) ≡ refusing refusal zeros)
+    → {found : Check} → AllNumbered found → {given : Answer} → given ≡ answer found worked-out
+    → Decided found worked-out zeros (verdict given)
+decided {worked-out = worked-out} {zeros} answer verdict accepts refuses {found} N e = rw e (by found N)
+  where
+    by : (found : Check) → AllNumbered found → Decided found worked-out zeros (verdict (answer found worked-out))
+    by Accepted N =
+        rw accepts (record { accepted = λ e. (refl, refl, refl); refused = λ refusal e. no-acceptance (sym e); exactly = λ zero. refl })
+    by (Refused x) N =
+        rw (refuses x)
+        (record {
+          accepted = λ e. no-acceptance e;
+          refused =
+              λ refusal e.
+              let same = refusal-is e in
+              (ap (λ r. r .number) same, ap (λ r. r .place) same, refl, N refusal e);
+          exactly = λ zero. absurd (omega (arith, N x refl .least));
+        })
+
+-- a check is its own answer
+pub checked : {found answer : Check} → AllNumbered found → answer ≡ found → Decided found tt tt (of-check answer)
+checked N e = decided (λ found none. found) of-check refl (λ refusal. refl) N e
