@@ -1,14 +1,12 @@
 -- The tests decide an answer of `share_day`, and one of number 0 keeps demand 3 in the lists that a caller holds.
-use mathlib.Core.Path.{_≡_, refl, ap, sym, _∙_}
+use mathlib.Core.Path.{_≡_, refl, ap, _∙_}
 use mathlib.Core.List.{List}
 use Prim.Native.Nat.{ℕ, _≤_}
 use native.Mathlib.Omega.{arith}
 use lib.ListN.{length, take, drop, List·getD-eq-default}
 use lib.Seq.{sets}
 use Rattle.columns.specs.Column.{col, listed}
-use Rattle.columns.specs.Sum.{sum}
 use Rattle.columns.proofs.Lists.{made-col, drop-sets}
-use Rattle.units.specs.declared.refusal.Check.{Check}
 use Rattle.units.specs.Verdict.{Decided}
 use Rattle.units.proofs.Verdicts.{decided}
 use Rattle.daytable.specs.Table.{Table, rows}
@@ -17,8 +15,8 @@ use Rattle.daytable.proofs.Accepting.{accepting}
 use Rattle.daytable.proofs.Decided.{check-numbered}
 use Rattle.dayshares.specs.declared.Day.{Day}
 use Rattle.dayshares.specs.Given.{firm as firm-of, auction-held, auction-offered, lower-tier-held, lower-tier-offered}
-use Rattle.dayshares.specs.Answer.{shares, answer, verdict, leaves, Answered}
-use Rattle.dayshares.specs.Promise.{Promise, Kept}
+use Rattle.dayshares.specs.Answer.{shares, answer, verdict, Answered}
+use Rattle.dayshares.specs.Promise.{Kept}
 use Rattle.dayshares.proofs.Classes.{class-le}
 use Rattle.dayshares.proofs.Firms.{firm-le}
 use Rattle.dayshares.proofs.Promises.{promises}
@@ -53,15 +51,19 @@ module _ {T : Table} {firm-lent auction-lent lower-tier-lent : List ℕ} {day : 
       let told = day-decided .accepted accepted .2 in
       let L = accepting T _ _ _ accepted in
       let P = promises T _ _ _ accepted in
-      let firm = front (rows T) (T .firm-schedule) firm-lent (firm-le (firm-of T)) (L .long .firm-schedule) (L .firm-fits) (rw accepted at (A .leaves-firm)) in
+      let firm =
+      front (rows T) (T .firm-schedule) firm-lent (firm-le (firm-of T)) (L .long .firm-schedule) (L .firm-fits)
+      (rw accepted at (A .leaves-firm))
+      in
       let auction =
       front (rows T) (T .auction-schedule) auction-lent
-      (class-le (rows T) (col (T .auction-mdq)) (col (T .auction-schedule)) (auction-offered T) (auction-held T)) (L .long .auction-schedule) (L .auction-fits) (rw accepted at (A .leaves-auction))
+      (class-le (rows T) (col (T .auction-mdq)) (col (T .auction-schedule)) (auction-offered T) (auction-held T))
+      (L .long .auction-schedule) (L .auction-fits) (rw accepted at (A .leaves-auction))
       in
       let lower-tier =
       front (rows T) (T .lower-tier-schedule) lower-tier-lent
-      (class-le (rows T) (col (T .lower-tier-schedule)) (col (T .lower-tier-schedule)) (lower-tier-offered T) (lower-tier-held T)) (L .long .lower-tier-schedule) (L .lower-tier-fits)
-      (rw accepted at (A .leaves-lower-tier))
+      (class-le (rows T) (col (T .lower-tier-schedule)) (col (T .lower-tier-schedule)) (lower-tier-offered T) (lower-tier-held T))
+      (L .long .lower-tier-schedule) (L .lower-tier-fits) (rw accepted at (A .leaves-lower-tier))
       in
       record {
         promise = rw (firm .0, auction .0, lower-tier .0, told) P;

@@ -105,7 +105,8 @@ module _ (T : Table) (firm-room auction-room lower-tier-room : ℕ) (A : Accepti
 
 -- every accepted table keeps demand 3
 pub promises : (T : Table) (firm-room auction-room lower-tier-room : ℕ)
-    → check T firm-room auction-room lower-tier-room ≡ Check.Accepted → Promise T (firm-given T) (auction-given T) (lower-tier-given T) (left T)
+    → check T firm-room auction-room lower-tier-room ≡ Check.Accepted
+    → Promise T (firm-given T) (auction-given T) (lower-tier-given T) (left T)
 promises T firm-room auction-room lower-tier-room accepted =
     let A = accepting T firm-room auction-room lower-tier-room accepted in
     let R = ready T firm-room auction-room lower-tier-room A in
