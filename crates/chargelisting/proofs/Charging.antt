@@ -5,21 +5,21 @@ use Rattle.units.specs.declared.refusal.Refusal.{Refusal}
 use Rattle.overruns.specs.declared.day.Overruns.{Overruns}
 use Rattle.overruns.specs.declared.day.DayOverruns.{DayOverruns}
 use Rattle.overruns.specs.declared.day.DayOverruns.the-variants as DayOverruns
-use Rattle.overruns.specs.Day.{all-overruns, with-greatest}
+use Rattle.overruns.specs.Day.{with-greatest, verdict as day-verdict}
 use Rattle.tariff.specs.declared.charges.Charge.{Charge}
 use Rattle.tariff.specs.declared.charges.Charge.the-variants as Charge
-use Rattle.tariff.specs.Charges.{cents}
+use Rattle.tariff.specs.Charges.{verdict as charge-verdict}
 
 module _ (stated : DayOverruns) {answer : DayOverruns} (is : answer ≡ stated) where
-  pub refused-zeros : {x : Refusal} → answer ≡ DayOverruns.Refused x → with-greatest 0 0 0 0 ≡ all-overruns stated
-  refused-zeros e = ap all-overruns (sym e ∙ is)
+  pub refused-zeros : {x : Refusal} → answer ≡ DayOverruns.Refused x → with-greatest 0 0 0 0 ≡ day-verdict stated .figures
+  refused-zeros e = ap (λ day. day-verdict day .figures) (sym e ∙ is)
 
-  pub over-is : {over : Overruns} → answer ≡ DayOverruns.Over over → over ≡ all-overruns stated
-  over-is e = ap all-overruns (sym e ∙ is)
+  pub over-is : {over : Overruns} → answer ≡ DayOverruns.Over over → over ≡ day-verdict stated .figures
+  over-is e = ap (λ day. day-verdict day .figures) (sym e ∙ is)
 
 module _ (stated : Charge) {answer : Charge} (is : answer ≡ stated) where
-  pub refused-free : {x : Refusal} → answer ≡ Charge.Refused x → 0 ≡ cents stated .0
-  refused-free e = ap (λ charge. cents charge .0) (sym e ∙ is)
+  pub refused-free : {x : Refusal} → answer ≡ Charge.Refused x → 0 ≡ charge-verdict stated .figures .0
+  refused-free e = ap (λ charge. charge-verdict charge .figures .0) (sym e ∙ is)
 
-  pub due-is : {due : Cents} → answer ≡ Charge.Charged due → due .0 ≡ cents stated .0
-  due-is e = ap (λ charge. cents charge .0) (sym e ∙ is)
+  pub due-is : {due : Cents} → answer ≡ Charge.Charged due → due .0 ≡ charge-verdict stated .figures .0
+  due-is e = ap (λ charge. charge-verdict charge .figures .0) (sym e ∙ is)

@@ -9,8 +9,8 @@ use Rattle.units.specs.Bound.{most-rate}
 use Rattle.units.specs.Refusals.{_then_, keep}
 use Rattle.lines.specs.Line.{line, decimals, day-word}
 use Rattle.overruns.specs.declared.day.Overruns.{Overruns}
-use Rattle.overruns.specs.Day.{day-answer, all-overruns}
-use Rattle.tariff.specs.Charges.{cents, overrun-charge}
+use Rattle.overruns.specs.Day.{day-answer, verdict as day-verdict}
+use Rattle.tariff.specs.Charges.{overrun-charge, verdict as charge-verdict}
 use Rattle.dayformat.specs.declared.day.Day.{Day}
 use Rattle.dayformat.specs.declared.form.Tag.the-variants.{Meter}
 use Rattle.dayformat.specs.declared.layout.Counts.{Counts}
@@ -31,7 +31,7 @@ head-line day rate = line (day-word ∷ decimal day ∷ rate-word ∷ decimal (r
 
 -- ---- of a row of the meter table: overruns in MJ, in 01's order; cents at the rate
 abbrev pub overruns-of : Counts → List ℕ → ℕ → Overruns
-overruns-of counts numbers row = all-overruns (day-answer (shipper-day counts numbers row))
+overruns-of counts numbers row = day-verdict (day-answer (shipper-day counts numbers row)) .figures
 
 abbrev pub charge-figures : Rate → Counts → List ℕ → ℕ → List ℕ
 charge-figures rate counts numbers row =
@@ -42,7 +42,7 @@ charge-figures rate counts numbers row =
     ∷ over .«daily_receipt» .0
     ∷ over .«daily_delivery» .0
     ∷ over .greatest .0
-    ∷ cents (overrun-charge rate (over .greatest)) .0
+    ∷ charge-verdict (overrun-charge rate (over .greatest)) .figures .0
     ∷ []
 
 -- a line for each of the first so many rows

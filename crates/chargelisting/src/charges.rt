@@ -11,7 +11,7 @@ use tariff::overrun_charge;
 use units::Megajoules;
 use units::Rate;
 ghost use mathlib.Core.Path.{_≡_};
-ghost use Rattle.tariff.specs.Charges.{cents, overrun-charge};
+ghost use Rattle.tariff.specs.Charges.{overrun-charge, verdict};
 ghost use Rattle.chargelisting.specs.ChargesText.{overruns-of, charge-figures};
 
 const NO_OVERRUNS: Overruns = Overruns {
@@ -45,7 +45,7 @@ fn overruns_of(counts: Counts, numbers: &[usize], row: u32) -> Overruns
 
 // What an overrun costs, zero where it is refused.
 fn cents_of(rate: Rate, overrun: Megajoules) -> u64
-    ensures { λ r. ⌜ r ≡ cents (overrun-charge rate overrun) .0 ⌝ }
+    ensures { λ r. ⌜ r ≡ verdict (overrun-charge rate overrun) .figures .0 ⌝ }
 {
     let charge = overrun_charge(rate, overrun);
     match charge {

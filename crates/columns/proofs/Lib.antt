@@ -1,3 +1,3 @@
-pub mod Lists
 pub mod Sums
+pub mod Lists
 pub mod Firsts

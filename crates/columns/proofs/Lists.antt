@@ -10,6 +10,8 @@ use native.Mathlib.Omega.{arith}
 use lib.ListN.{length, take, drop, set, length-append, length-set, List·getD-append, List·getD-eq-default}
 use lib.Seq.{sets, sets-eq, length-sets, ext-getD, getD-at, getD-drop, getD-append-add, take-at, drop-at}
 use Rattle.columns.specs.Column.{col, listed}
+use Rattle.columns.specs.Sum.{sum}
+use Rattle.columns.proofs.Sums.{sum-cong}
 
 pub length-listed : (n : ℕ) (f : ℕ → ℕ) → length (listed n f) ≡ n
 unfolding listed
@@ -115,6 +117,16 @@ module _ (n : ℕ) (f : ℕ → ℕ) (lent made : List ℕ) (room : n ≤ length
 
   pub made-col : ((i : ℕ) → n ≤ i → f i ≡ 0) → col (take n made) ≡ f
   made-col zeros = ap col made-part ∙ col-whole n f zeros
+
+  pub made-row : (i : ℕ) → i < n → col (take n made) i ≡ f i
+  made-row i l = ap (λ xs. col xs i) made-part ∙ col-listed n f i l
+
+  pub made-sum : sum n (col (take n made)) ≡ sum n f
+  made-sum = sum-cong n (col (take n made)) f made-row
+
+  -- and what follows it is as it was
+  pub made-rest : drop n made ≡ drop n lent
+  made-rest = ap (drop n) is ∙ drop-sets n f lent room
 
 -- the rows written last stand
 pub sets-again : (n : ℕ) (f g : ℕ → ℕ) (l : List ℕ) → n ≤ length l → sets (sets l 0 (listed n f)) 0 (listed n g) ≡ sets l 0 (listed n g)

@@ -1,12 +1,12 @@
 -- The tests decide an answer of `share_day`, and one of number 0 keeps demand 3 in the lists that a caller holds.
-use mathlib.Core.Path.{_≡_, refl, ap, _∙_}
+use mathlib.Core.Path.{_≡_, refl}
 use mathlib.Core.List.{List}
 use Prim.Native.Nat.{ℕ, _≤_}
 use native.Mathlib.Omega.{arith}
 use lib.ListN.{length, take, drop, List·getD-eq-default}
 use lib.Seq.{sets}
 use Rattle.columns.specs.Column.{col, listed}
-use Rattle.columns.proofs.Lists.{made-col, drop-sets}
+use Rattle.columns.proofs.Lists.{made-col, made-rest}
 use Rattle.units.specs.Verdict.{Decided}
 use Rattle.units.proofs.Verdicts.{decided}
 use Rattle.daytable.specs.Table.{Table, rows}
@@ -27,7 +27,7 @@ front : (n : ℕ) (schedule lent : List ℕ) {after : List ℕ} {given : ℕ →
     → (col (take n after) ≡ given) × (drop n after ≡ drop n lent)
 front n schedule lent {after} {given} low long fits is = (
   made-col n given lent after fits is (λ i past. omega (arith, low i, List·getD-eq-default schedule 0 {n = i} (omega arith))),
-  ap (drop n) is ∙ drop-sets n given lent fits,
+  made-rest n given lent after fits is,
 )
 
 module _ {T : Table} {firm-lent auction-lent lower-tier-lent : List ℕ} {day : Day} {firm-after auction-after lower-tier-after : List ℕ}

@@ -8,6 +8,7 @@ use Rattle.columns.specs.Column.{col}
 use Rattle.columns.specs.First.{first}
 use Rattle.units.specs.declared.refusal.Check.{Check}
 use Rattle.units.specs.Refusals.{_then_, keep}
+use Rattle.units.specs.Verdict.{Verdict, accepting, refusing}
 use Rattle.text.specs.Text.{value}
 use Rattle.decimals.specs.declared.Decimal.{Decimal}
 
@@ -29,15 +30,7 @@ answer (Check.Refused x) number = Decimal.Refused x
 abbrev pub decimal-of : List ℕ → ℕ → Decimal
 decimal-of word most = answer (word-check word most) (value word)
 
--- 01's number (0 where accepted), place, and the number (0 where refused)
-abbrev pub number : Decimal → ℕ
-number (Decimal.Number n) = 0
-number (Decimal.Refused x) = x .number
-
-abbrev pub place : Decimal → ℕ
-place (Decimal.Number n) = 0
-place (Decimal.Refused x) = x .place
-
-abbrev pub figure : Decimal → ℕ
-figure (Decimal.Number n) = n
-figure (Decimal.Refused x) = 0
+-- 01's number and place of each case, and the number read
+abbrev pub verdict : Decimal → Verdict ℕ
+verdict (Decimal.Number n) = accepting n
+verdict (Decimal.Refused x) = refusing x 0

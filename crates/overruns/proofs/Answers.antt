@@ -12,10 +12,11 @@ use Rattle.overruns.specs.Daily.{daily-where}
 
 -- one overrun
 module _ (check : Check) (over : ℕ) where
-  pub over-refused : {x : Refusal} → check ≡ Check.Refused x → Overrun.Refused x ≡ over-where check over
+  pub over-refused : {x : Refusal} → check ≡ Check.Refused x → Overrun.Refused x ≡ over-where check (record { 0 = over })
   over-refused e = rw e
 
-  pub over-accepted : {x : Megajoules} → check ≡ Check.Accepted → x .0 ≡ over → Overrun.Over x ≡ over-where check over
+  pub over-accepted : {x : Megajoules} → check ≡ Check.Accepted → x .0 ≡ over
+      → Overrun.Over x ≡ over-where check (record { 0 = over })
   over-accepted e g = rw (e, ← g)
 
 -- both daily overruns

@@ -14,6 +14,7 @@ use Rattle.overruns.specs.Hourly.{hourly, most-hourly}
 use Rattle.overruns.specs.TwelveHourly.{period-limit, twelve-hourly, most-twelve-hourly}
 use Rattle.overruns.specs.Daily.{daily, most-daily}
 use Rattle.overruns.specs.Day.{greatest}
+use Rattle.overruns.specs.Promise.{Greatest}
 use Rattle.overruns.proofs.Excesses.{gas-most, hours-most}
 use Rattle.overruns.proofs.Periods.{periods-most}
 
@@ -45,13 +46,6 @@ unfolding sum
 daily-reached = refl
 
 -- ---- the greatest
-pub record Greatest (a b c d g : ℕ) : Type 0 where
-  pub one : (g ≡ a) ⊎ ((g ≡ b) ⊎ ((g ≡ c) ⊎ (g ≡ d)))
-  pub first : a ≤ g
-  pub second : b ≤ g
-  pub third : c ≤ g
-  pub fourth : d ≤ g
-
 either : (a b : ℕ) → (max a b ≡ a) ⊎ (max a b ≡ b)
 either a b = go (decLe b a)
   where

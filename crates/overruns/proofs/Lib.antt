@@ -6,4 +6,5 @@ pub mod Accepting
 pub mod Answers
 pub mod Greatest
 pub mod WholeDay
+pub mod Decided
 pub mod Promises

@@ -6,6 +6,7 @@ use Rattle.columns.specs.Sum.{sum}
 use Rattle.units.specs.declared.Megajoules.{Megajoules}
 use Rattle.units.specs.declared.refusal.Check.{Check}
 use Rattle.units.specs.Refusals.{_then_}
+use Rattle.units.specs.Verdict.{Verdict, accepting, refusing}
 use Rattle.metered.specs.declared.Side.{Side}
 use Rattle.metered.specs.Singles.{sides-check}
 use Rattle.metered.specs.Hours.{delivered, received, rows-check}
@@ -37,15 +38,7 @@ abbrev pub daily-answer : List (List Megajoules) → Side → Side → DailyOver
 daily-answer hours receipt delivery =
     daily-where (daily-check hours receipt delivery) (both-daily (delivered hours) (received hours) receipt delivery)
 
--- 01's number (0 where accepted), place, and overruns (0 where refused)
-abbrev pub number : DailyOverruns → ℕ
-number (DailyOverruns.Over x) = 0
-number (DailyOverruns.Refused x) = x .number
-
-abbrev pub place : DailyOverruns → ℕ
-place (DailyOverruns.Over x) = 0
-place (DailyOverruns.Refused x) = x .place
-
-abbrev pub overruns : DailyOverruns → Daily
-overruns (DailyOverruns.Over x) = x
-overruns (DailyOverruns.Refused x) = record { receipt = record { 0 = 0 }; delivery = record { 0 = 0 } }
+-- 01's number, place and figures of each case
+abbrev pub verdict : DailyOverruns → Verdict Daily
+verdict (DailyOverruns.Over over) = accepting over
+verdict (DailyOverruns.Refused x) = refusing x (record { receipt = record { 0 = 0 }; delivery = record { 0 = 0 } })

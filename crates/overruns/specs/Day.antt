@@ -7,6 +7,7 @@ use Rattle.units.specs.declared.Megajoules.{Megajoules}
 use Rattle.units.specs.declared.refusal.Check.{Check}
 use Rattle.units.specs.Bound.{most-hour}
 use Rattle.units.specs.Refusals.{_then_, within}
+use Rattle.units.specs.Verdict.{Verdict, accepting, refusing}
 use Rattle.metered.specs.declared.Side.{Side}
 use Rattle.metered.specs.Singles.{mdqs-check, sides-check}
 use Rattle.metered.specs.Hours.{figures, delivered, received, rows-check}
@@ -80,15 +81,7 @@ day-overruns D =
 abbrev pub day-answer : ShipperDay → DayOverruns
 day-answer D = day-where (day-check D) (day-overruns D)
 
--- 01's number (0 where accepted), place, and overruns (0 where refused)
-abbrev pub number : DayOverruns → ℕ
-number (DayOverruns.Over x) = 0
-number (DayOverruns.Refused x) = x .number
-
-abbrev pub place : DayOverruns → ℕ
-place (DayOverruns.Over x) = 0
-place (DayOverruns.Refused x) = x .place
-
-abbrev pub all-overruns : DayOverruns → Overruns
-all-overruns (DayOverruns.Over x) = x
-all-overruns (DayOverruns.Refused x) = with-greatest 0 0 0 0
+-- 01's number, place and figures of each case
+abbrev pub verdict : DayOverruns → Verdict Overruns
+verdict (DayOverruns.Over over) = accepting over
+verdict (DayOverruns.Refused x) = refusing x (with-greatest 0 0 0 0)

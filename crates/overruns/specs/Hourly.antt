@@ -30,4 +30,5 @@ unfoldable pub hourly-check : Gigajoules → List (List Megajoules) → Check
 hourly-check m hours = Check.Accepted then keep (leb (m .0) most-gigajoules) 3 then rows-check hours
 
 abbrev pub hourly-answer : Gigajoules → List (List Megajoules) → Overrun
-hourly-answer m hours = over-where (hourly-check m hours) (hourly (m .0) (col (delivered hours)) (col (received hours)))
+hourly-answer m hours =
+    over-where (hourly-check m hours) (record { 0 = hourly (m .0) (col (delivered hours)) (col (received hours)) })

@@ -3,3 +3,4 @@ pub mod Hourly
 pub mod Daily
 pub mod TwelveHourly
 pub mod Day
+pub mod Promise

@@ -43,4 +43,5 @@ twelve-hourly-check p m hours =
     Check.Accepted then keep (eqb (length hours) 35) 9 then mdqs-check p m then within most-hour hours
 
 abbrev pub twelve-hourly-answer : Gigajoules → Gigajoules → List ℕ → Overrun
-twelve-hourly-answer p m hours = over-where (twelve-hourly-check p m hours) (twelve-hourly (p .0) (m .0) (col hours))
+twelve-hourly-answer p m hours =
+    over-where (twelve-hourly-check p m hours) (record { 0 = twelve-hourly (p .0) (m .0) (col hours) })

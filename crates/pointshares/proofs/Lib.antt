@@ -4,4 +4,5 @@ pub mod Stranding
 pub mod Accepting
 pub mod Answers
 pub mod Determined
+pub mod Decided
 pub mod Spending

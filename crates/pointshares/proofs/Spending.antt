@@ -1,17 +1,31 @@
--- 01: the shares of an accepted hour never add up to more than the capacity, and with at least one shipper they fall short
--- of it by fewer MJ than there are shippers.
-use mathlib.Core.Path.{_≡_}
+-- The shares of an hour that is answered with number 0 spend its capacity, in the list that a caller holds.
+use mathlib.Core.Path.{_≡_, sym}
 use mathlib.Core.List.{List}
 use Prim.Native.Nat.{ℕ}
 use lib.ListN.{length}
 use Rattle.columns.specs.Column.{col}
-use Rattle.units.specs.declared.refusal.Check.{Check}
-use Rattle.sharing.proofs.Parts.{Spent}
-use Rattle.pointshares.specs.Answer.{check, given}
+use Rattle.columns.proofs.Lists.{made-sum, made-rest}
+use Rattle.pointshares.specs.declared.Hour.{Hour}
+use Rattle.pointshares.specs.Share.{shares}
+use Rattle.pointshares.specs.Answer.{verdict, Answered}
+use Rattle.pointshares.specs.Promise.{Kept}
 use Rattle.pointshares.proofs.Shares.{spent}
 use Rattle.pointshares.proofs.Accepting.{accepting}
+use Rattle.pointshares.proofs.Decided.{hour-decided}
 
-pub hour-spent : (h : ℕ) (entitlements mdqs : List ℕ) (room : ℕ) → check h entitlements mdqs room ≡ Check.Accepted
-    → Spent (length entitlements) h (given h entitlements mdqs .0)
-hour-spent h entitlements mdqs room e =
-    spent (length entitlements) (col entitlements) (col mdqs) h (accepting h entitlements mdqs room e .shareable .served)
+pub hour-kept : {h : ℕ} {entitlements mdqs lent after : List ℕ} {hour : Hour} → Answered h entitlements mdqs lent hour after
+    → verdict hour .number ≡ 0 → Kept h entitlements lent hour after
+hour-kept {h} {entitlements} {mdqs} {lent} {after} A zero =
+    let accepted = hour-decided A .exactly zero in
+    let told = hour-decided A .accepted accepted .2 in
+    let ready = accepting h entitlements mdqs (length lent) accepted in
+    let n = length entitlements in
+    let given = shares entitlements mdqs h in
+    let capacity = spent n (col entitlements) (col mdqs) h (ready .shareable .served) in
+    let is = rw accepted at (A .leaves) in
+    record {
+      total = rw told (sym (made-sum n given lent after (ready .fits) is));
+      most = rw told (capacity .most);
+      short = rw told (capacity .short);
+      rest = made-rest n given lent after (ready .fits) is;
+    }

@@ -12,6 +12,7 @@ use Rattle.units.specs.declared.Megajoules.{Megajoules}
 use Rattle.units.specs.declared.refusal.Check.{Check}
 use Rattle.units.specs.Bound.{most-hour, most-gigajoules, most-rows}
 use Rattle.units.specs.Refusals.{_then_, keep, within, accepted-or}
+use Rattle.units.specs.Verdict.{Verdict, accepting, refusing}
 use Rattle.pointshares.specs.declared.Hour.{Hour}
 use Rattle.pointshares.specs.Share.{shares, stranded}
 
@@ -35,23 +36,17 @@ abbrev pub answer : Check → Megajoules → Hour
 answer Check.Accepted g = Hour.Shared g
 answer (Check.Refused x) g = Hour.Refused x
 
--- of an answer, 01's number (0 where accepted), place, and figure (zero where refused)
-abbrev pub number : Hour → ℕ
-number (Hour.Shared g) = 0
-number (Hour.Refused x) = x .number
+-- 01's number, place and figure of each case
+abbrev pub verdict : Hour → Verdict Megajoules
+verdict (Hour.Shared g) = accepting g
+verdict (Hour.Refused x) = refusing x (record { 0 = 0 })
 
-abbrev pub place : Hour → ℕ
-place (Hour.Shared g) = 0
-place (Hour.Refused x) = x .place
-
-abbrev pub figure : Hour → Megajoules
-figure (Hour.Shared g) = g
-figure (Hour.Refused x) = record { 0 = 0 }
+-- the lent list afterwards: the shares at its front where accepted, as it was where refused
+abbrev pub afterwards : ℕ → List ℕ → List ℕ → List ℕ → List ℕ
+afterwards h entitlements mdqs lent =
+    accepted-or (check h entitlements mdqs (length lent)) (sets lent 0 (listed (length entitlements) (shares entitlements mdqs h))) lent
 
 -- the statement of `share_hour`: its answer, and the lent list before and after
 pub record Answered (h : ℕ) (entitlements mdqs lent : List ℕ) (hour : Hour) (after : List ℕ) : Type 0 where
   pub answers : hour ≡ answer (check h entitlements mdqs (length lent)) (given h entitlements mdqs)
-  pub leaves :
-      after
-      ≡ accepted-or (check h entitlements mdqs (length lent))
-      (sets lent 0 (listed (length entitlements) (shares entitlements mdqs h))) lent
+  pub leaves : after ≡ afterwards h entitlements mdqs lent

@@ -1,3 +1,4 @@
 pub mod Share
 pub mod Rows
 pub mod Answer
+pub mod Promise

@@ -2,3 +2,4 @@ pub mod HalfUps
 pub mod Products
 pub mod Charged
 pub mod Escalated
+pub mod Decided

@@ -3,6 +3,7 @@ use Prim.Native.Nat.{ℕ, _-_, _*_, max}
 use lib.Dec.{leb}
 use Rattle.units.specs.Bound.{most-gigajoules, most-chargeable, most-requests, most-rate}
 use Rattle.units.specs.Refusals.{_then_, keep}
+use Rattle.units.specs.Verdict.{Verdict, accepting, refusing}
 use Rattle.units.specs.declared.Gigajoules.{Gigajoules}
 use Rattle.units.specs.declared.Megajoules.{Megajoules}
 use Rattle.units.specs.declared.Cents.{Cents}
@@ -17,18 +18,10 @@ abbrev pub answer : Check → Cents → Charge
 answer Check.Accepted due = Charge.Charged due
 answer (Check.Refused x) due = Charge.Refused x
 
--- of an answer, 01's number (0 where charged), place, and cents (0 where refused)
-abbrev pub number : Charge → ℕ
-number (Charge.Charged due) = 0
-number (Charge.Refused x) = x .number
-
-abbrev pub place : Charge → ℕ
-place (Charge.Charged due) = 0
-place (Charge.Refused x) = x .place
-
-abbrev pub cents : Charge → Cents
-cents (Charge.Charged due) = due
-cents (Charge.Refused x) = record { 0 = 0 }
+-- 01's number, place and cents of each case
+abbrev pub verdict : Charge → Verdict Cents
+verdict (Charge.Charged due) = accepting due
+verdict (Charge.Refused x) = refusing x (record { 0 = 0 })
 
 -- cl. 7.2: rate × MJ / 1,000,000
 abbrev pub overrun-cents : Rate → Megajoules → Cents

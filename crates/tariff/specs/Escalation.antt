@@ -3,6 +3,7 @@ use Prim.Native.Nat.{ℕ, _*_}
 use lib.Dec.{leb, ltb}
 use Rattle.units.specs.Bound.{most-rate, most-cpi}
 use Rattle.units.specs.Refusals.{_then_, keep}
+use Rattle.units.specs.Verdict.{Verdict, accepting, refusing}
 use Rattle.units.specs.declared.Rate.{Rate}
 use Rattle.units.specs.declared.refusal.Check.{Check}
 use Rattle.tariff.specs.declared.escalation.Escalation.{Escalation}
@@ -13,18 +14,10 @@ abbrev pub answer : Check → Rate → Escalation
 answer Check.Accepted new = Escalation.Escalated new
 answer (Check.Refused x) new = Escalation.Refused x
 
--- of an answer, 01's number (0 where escalated), place, and rate (0 where refused)
-abbrev pub number : Escalation → ℕ
-number (Escalation.Escalated new) = 0
-number (Escalation.Refused x) = x .number
-
-abbrev pub place : Escalation → ℕ
-place (Escalation.Escalated new) = 0
-place (Escalation.Refused x) = x .place
-
-abbrev pub rate : Escalation → Rate
-rate (Escalation.Escalated new) = new
-rate (Escalation.Refused x) = record { 0 = 0 }
+-- 01's number, place and rate of each case
+abbrev pub verdict : Escalation → Verdict Rate
+verdict (Escalation.Escalated new) = accepting new
+verdict (Escalation.Refused x) = refusing x (record { 0 = 0 })
 
 -- old rate × new CPI / old CPI
 abbrev pub escalated-rate : Rate → ℕ → ℕ → Rate

@@ -83,6 +83,15 @@ decided {worked-out = worked-out} {zeros} answer verdict accepts refuses {found}
           exactly = λ zero. absurd (omega (arith, N x refl .least));
         })
 
+-- what holds of the figures worked out where the tests accept, and of zeros, holds of every answer's
+pub every-figure : {Figures : Type 0} (P : Figures → Type 0) {found : Check} {worked-out zeros : Figures} {verdict : Verdict Figures}
+    → Decided found worked-out zeros verdict → (found ≡ Accepted → P worked-out) → P zeros → P (verdict .figures)
+every-figure P {found} {verdict = verdict} D holds nothing = by found refl
+  where
+    by : (x : Check) → found ≡ x → P (verdict .figures)
+    by Accepted e = rw (D .accepted e .2) (holds e)
+    by (Refused x) e = rw (D .refused x e .2) nothing
+
 -- a check is its own answer
 pub checked : {found answer : Check} → AllNumbered found → answer ≡ found → Decided found tt tt (of-check answer)
 checked N e = decided (λ found none. found) of-check refl (λ refusal. refl) N e

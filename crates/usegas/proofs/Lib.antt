@@ -4,5 +4,6 @@ pub mod Signs
 pub mod Accepting
 pub mod Answers
 pub mod Determined
+pub mod Decided
 pub mod Spending
 pub mod Heaters

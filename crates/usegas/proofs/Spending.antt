@@ -1,21 +1,40 @@
--- The shares of accepted system use gas never add up to more than the net gas, and where there is any they fall short of it by
--- fewer MJ than there are rows.
-use mathlib.Core.Path.{_≡_}
+-- The shares of gas that is answered with number 0 spend the net gas, in the list that a caller holds.
+use mathlib.Core.Path.{_≡_, sym, _∙_}
 use mathlib.Core.List.{List}
-use Prim.Native.Nat.{ℕ, _+_, _-_, _≤_, _<_}
+use Prim.Native.Nat.{ℕ, _-_}
 use lib.ListN.{length}
-use Rattle.units.specs.declared.refusal.Check.{Check}
+use Rattle.columns.proofs.Lists.{made-row, made-sum, made-rest}
 use Rattle.sharing.proofs.Parts.{parts-spent, parts-left}
-use Rattle.usegas.specs.Share.{weights, total}
-use Rattle.usegas.specs.General.{check, given}
+use Rattle.usegas.specs.declared.general.UseGas.{UseGas}
+use Rattle.usegas.specs.Share.{none, weights, shares}
+use Rattle.usegas.specs.General.{verdict, Answered}
+use Rattle.usegas.specs.Heater.{Heated}
+use Rattle.usegas.specs.Promise.{Kept}
+use Rattle.usegas.proofs.Shares.{foundation-nothing}
 use Rattle.usegas.proofs.Accepting.{accepting}
+use Rattle.usegas.proofs.Decided.{general-decided}
 
-module _ (sug fssug foundation : ℕ) (schedules : List ℕ) (room : ℕ) (e : check sug fssug foundation schedules room ≡ Check.Accepted) where
-  scheduled : 0 < sug - fssug → 0 < total foundation schedules
-  scheduled = accepting sug fssug foundation schedules room e .shareable .scheduled
+pub general-kept : {sug fssug foundation : ℕ} {schedules lent after : List ℕ} {gas : UseGas}
+    → Answered sug fssug foundation schedules lent gas after → verdict gas .number ≡ 0
+    → Kept sug fssug foundation schedules lent gas after
+general-kept {sug} {fssug} {foundation} {schedules} {lent} {after} A zero =
+    let accepted = general-decided A .exactly zero in
+    let told = general-decided A .accepted accepted .2 in
+    let ready = accepting sug fssug foundation schedules (length lent) accepted in
+    let n = length schedules in
+    let net = sug - fssug in
+    let given = shares foundation schedules net in
+    let scheduled = ready .shareable .scheduled in
+    let is = rw accepted at (A .leaves) in
+    record {
+      total = rw told (sym (made-sum n given lent after (ready .fits) is));
+      most = rw told (parts-spent n (weights foundation schedules) net scheduled .most);
+      short = λ some. rw told (parts-left n (weights foundation schedules) net (scheduled some));
+      excepted = λ l. made-row n given lent after (ready .fits) is foundation l ∙ foundation-nothing foundation schedules net;
+      rest = made-rest n given lent after (ready .fits) is;
+    }
 
-  pub never-above : given sug fssug foundation schedules .0 ≤ sug - fssug
-  never-above = parts-spent (length schedules) (weights foundation schedules) (sug - fssug) scheduled .most
-
-  pub falls-short : 0 < sug - fssug → sug - fssug < given sug fssug foundation schedules .0 + length schedules
-  falls-short some = parts-left (length schedules) (weights foundation schedules) (sug - fssug) (scheduled some)
+-- nobody is excepted, and FSSUG is zero
+pub heater-kept : {sug : ℕ} {schedules lent after : List ℕ} {gas : UseGas} → Heated sug schedules lent gas after
+    → verdict gas .number ≡ 0 → Kept sug 0 none schedules lent gas after
+heater-kept A zero = general-kept A zero

@@ -8,6 +8,7 @@ use Rattle.units.specs.declared.Megajoules.{Megajoules}
 use Rattle.units.specs.declared.refusal.Check.{Check}
 use Rattle.units.specs.Bound.{most-imbalance, most-gigajoules}
 use Rattle.units.specs.Refusals.{_then_, keep}
+use Rattle.units.specs.Verdict.{Verdict, accepting, refusing}
 use Rattle.usegas.specs.declared.fuel.Imbalance.{Imbalance}
 use Rattle.usegas.specs.declared.fuel.ImbalanceFuel.{ImbalanceFuel}
 
@@ -43,15 +44,7 @@ answer (Check.Refused x) gas = ImbalanceFuel.Refused x
 abbrev pub imbalance-fuel : Imbalance → Imbalance → Gigajoules → ImbalanceFuel
 imbalance-fuel start end mdq = answer (check start end mdq) (fuel (greatest start end) mdq)
 
--- of an answer, 01's number (0 where accepted), place, and figure (zero where refused)
-abbrev pub number : ImbalanceFuel → ℕ
-number (ImbalanceFuel.Supplied gas) = 0
-number (ImbalanceFuel.Refused x) = x .number
-
-abbrev pub place : ImbalanceFuel → ℕ
-place (ImbalanceFuel.Supplied gas) = 0
-place (ImbalanceFuel.Refused x) = x .place
-
-abbrev pub figure : ImbalanceFuel → Megajoules
-figure (ImbalanceFuel.Supplied gas) = gas
-figure (ImbalanceFuel.Refused x) = record { 0 = 0 }
+-- 01's number, place and figure of each case
+abbrev pub verdict : ImbalanceFuel → Verdict Megajoules
+verdict (ImbalanceFuel.Supplied gas) = accepting gas
+verdict (ImbalanceFuel.Refused x) = refusing x (record { 0 = 0 })

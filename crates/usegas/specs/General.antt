@@ -12,6 +12,7 @@ use Rattle.units.specs.declared.Megajoules.{Megajoules}
 use Rattle.units.specs.declared.refusal.Check.{Check}
 use Rattle.units.specs.Bound.{most-system-use, most-gigajoules, most-rows}
 use Rattle.units.specs.Refusals.{_then_, keep, within, accepted-or}
+use Rattle.units.specs.Verdict.{Verdict, accepting, refusing}
 use Rattle.usegas.specs.declared.general.UseGas.{UseGas}
 use Rattle.usegas.specs.Share.{beyond, total, unscheduled, shares}
 
@@ -36,18 +37,10 @@ abbrev pub answer : Check → Megajoules → UseGas
 answer Check.Accepted g = UseGas.Shared g
 answer (Check.Refused x) g = UseGas.Refused x
 
--- of an answer, 01's number (0 where accepted), place, and figure (zero where refused)
-abbrev pub number : UseGas → ℕ
-number (UseGas.Shared g) = 0
-number (UseGas.Refused x) = x .number
-
-abbrev pub place : UseGas → ℕ
-place (UseGas.Shared g) = 0
-place (UseGas.Refused x) = x .place
-
-abbrev pub figure : UseGas → Megajoules
-figure (UseGas.Shared g) = g
-figure (UseGas.Refused x) = record { 0 = 0 }
+-- 01's number, place and figure of each case
+abbrev pub verdict : UseGas → Verdict Megajoules
+verdict (UseGas.Shared g) = accepting g
+verdict (UseGas.Refused x) = refusing x (record { 0 = 0 })
 
 -- the statement of `share_general`: its answer, and the lent list before and after
 pub record Answered (sug fssug foundation : ℕ) (schedules lent : List ℕ) (gas : UseGas) (after : List ℕ) : Type 0 where
