@@ -4,9 +4,11 @@ use Rattle.columns.specs.Sum.{sum}
 use Rattle.columns.specs.First.{first-from}
 use Rattle.units.specs.Refusals.{_then_, keep, clear}
 use Rattle.sharing.specs.Chain.{after}
+use Rattle.daytable.specs.Acceptance as Day
 use Rattle.dayshares.specs.Firm.{given-one, given-two, given-firm}
-use Rattle.dayshares.specs.Class.{class-given}
-use Rattle.pointshares.specs.Share.{share}
+use Rattle.dayshares.specs.Class.{class-level, class-given}
+use Rattle.pointshares.specs.Share.{share, stranded}
+use Rattle.pointshares.specs.Answer as Point
 use Rattle.usegas.specs.Fuel.{check}
 use Rattle.metered.specs.Hours.{rows-check}
 use Rattle.metered.specs.Singles.{mdqs-check, side-check, sides-check}
@@ -32,6 +34,7 @@ use Rattle.figures.proofs.Levels.{
 
 pub figures : Figures
 unfolding given said listed sum first-from _then_ keep clear
-    given-one given-two given-firm after class-given share check
+    Day.lengths Day.figures Day.check given-one given-two given-firm after class-level class-given
+    Point.check stranded share check
     period-limit mdqs-check side-check sides-check rows-check day-check half-up overrun-check variation-check escalation-check
 figures = rw (first-three, first-two, first-one, second-three, second-two, second-one, third-three, third-two, third-one, third-auction)

@@ -1,4 +1,5 @@
 pub mod Line
 pub mod Units
 pub mod Days
+pub mod Answers
 pub mod Table
