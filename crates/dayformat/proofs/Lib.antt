@@ -1,3 +1,5 @@
+pub mod Accepting
 pub mod Bodies
+pub mod Decided
 pub mod Small
 pub mod Tables

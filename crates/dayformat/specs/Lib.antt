@@ -1,3 +1,4 @@
 pub mod Format
 pub mod Layout
 pub mod Table
+pub mod Acceptance

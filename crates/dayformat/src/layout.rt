@@ -1,9 +1,11 @@
 // How many fields of each tag a day has; so where a row stands among its numbers, and how many numbers and bytes there are.
 use crate::form::Tag;
 use crate::form::form_of;
+use units::Check;
 ghost use mathlib.Core.Path.{_≡_};
 ghost use Prim.Native.Nat.{_^_, _<_};
 ghost use Rattle.dayformat.specs.Layout.{count, with-count, table-start, row-start, numbers-in, file-size};
+ghost use Rattle.dayformat.specs.Acceptance.{counts-check};
 
 // The fields of tags 2 to 5.
 pub struct Counts {
@@ -40,6 +42,17 @@ impl Counts {
             Tag::Meter => counts.meters = rows,
         }
         counts
+    }
+
+    // 3 for a count beyond its bound.
+    pub fn check(self) -> Check
+        ensures { λ r. ⌜ r ≡ counts-check self ⌝ }
+    {
+        Check::Accepted
+            .keep(self.shippers <= form_of(Tag::Shipper).most, 3)
+            .keep(self.points <= form_of(Tag::Point).most, 3)
+            .keep(self.entries <= form_of(Tag::Entry).most, 3)
+            .keep(self.meters <= form_of(Tag::Meter).most, 3)
     }
 }
 

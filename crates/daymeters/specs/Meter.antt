@@ -9,7 +9,7 @@ use Rattle.dayformat.specs.declared.layout.Counts.{Counts}
 use Rattle.dayformat.specs.Format.{form}
 use Rattle.dayvalues.specs.Row.{number-at, beyond, row-check}
 
--- refused: 9; 3 a row beyond the count, one of its numbers
+-- refused: 9; 3 a count, a row beyond its count, one of its numbers
 abbrev pub meter-check : Counts → List ℕ → ℕ → Check
 meter-check counts numbers row = row-check counts numbers Meter row
 

@@ -1,4 +1,4 @@
--- Where the count of numbers or of shippers is refused, so is the column; else its rows decide.
+-- Where the count of numbers or of fields is refused, so is the column; else its rows decide.
 use mathlib.Core.Path.{_≡_, refl, ap, sym, _∙_}
 use mathlib.Core.List.{List}
 use Prim.Native.Nat.{ℕ}
@@ -8,11 +8,11 @@ use Rattle.columns.specs.Column.{col}
 use Rattle.units.specs.declared.refusal.Refusal.{Refusal}
 use Rattle.units.specs.declared.refusal.Check.{Check}
 use Rattle.units.specs.declared.refusal.Check.the-variants.{Accepted, Refused}
-use Rattle.units.specs.Bound.{most-rows}
 use Rattle.units.specs.Refusals.{_then_, keep, clear}
 use Rattle.dayformat.specs.declared.form.Tag.the-variants.{Shipper}
 use Rattle.dayformat.specs.declared.layout.Counts.{Counts}
 use Rattle.dayformat.specs.Layout.{count, numbers-in}
+use Rattle.dayformat.specs.Acceptance.{counts-check}
 use Rattle.dayvalues.specs.Column.{first-beyond, check}
 
 -- a refusal stays, whatever comes next
@@ -24,7 +24,7 @@ module _ (counts : Counts) (numbers : List ℕ) (place room : ℕ) {first : Chec
     (is : first
     ≡ (Check.Accepted
     then keep (eqb (length numbers) (numbers-in counts)) 9
-    then keep (leb (count counts Shipper) most-rows) 3)) where
+    then counts-check counts)) where
   abbrev with-rows : Check → Check
   with-rows counted =
       counted

@@ -2,5 +2,6 @@ pub mod Bounds
 pub mod Rows
 pub mod Accepting
 pub mod Answers
+pub mod Decided
 pub mod Determined
 pub mod Examining

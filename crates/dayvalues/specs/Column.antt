@@ -8,11 +8,13 @@ use lib.Seq.{sets}
 use Rattle.columns.specs.Column.{col, listed}
 use Rattle.columns.specs.First.{first}
 use Rattle.units.specs.declared.refusal.Check.{Check}
-use Rattle.units.specs.Bound.{most-gigajoules, most-rows}
+use Rattle.units.specs.Bound.{most-gigajoules}
 use Rattle.units.specs.Refusals.{_then_, keep, clear, accepted-or}
+use Rattle.units.specs.Verdict.{Verdict, accepting, refusing}
 use Rattle.dayformat.specs.declared.form.Tag.the-variants.{Shipper}
 use Rattle.dayformat.specs.declared.layout.Counts.{Counts}
 use Rattle.dayformat.specs.Layout.{count, numbers-in}
+use Rattle.dayformat.specs.Acceptance.{counts-check}
 use Rattle.dayvalues.specs.declared.column.ShipperColumn.{ShipperColumn}
 use Rattle.dayvalues.specs.declared.column.ShipperColumn.the-variants.{FirmMdq, AuctionMdq, FirmSchedule, AuctionSchedule, LowerTierSchedule}
 use Rattle.dayvalues.specs.declared.column.Listed.{Listed}
@@ -34,12 +36,12 @@ column counts numbers place row = number-at counts numbers Shipper row place
 abbrev pub first-beyond : Counts → (ℕ → ℕ) → ℕ → ℕ
 first-beyond counts numbers place = first (count counts Shipper) (λ row. beyond counts numbers Shipper row place)
 
--- refused: 9 not as many numbers as the counts say; 3 the count, a number; 7 the lent list
+-- refused: 9 not as many numbers as the counts say; 3 a count, a number; 7 the lent list
 unfoldable pub check : Counts → List ℕ → ℕ → ℕ → Check
 check counts numbers place room =
     Check.Accepted
     then keep (eqb (length numbers) (numbers-in counts)) 9
-    then keep (leb (count counts Shipper) most-rows) 3
+    then counts-check counts
     then clear (count counts Shipper) (first-beyond counts (col numbers) place) 3
     then keep (leb (count counts Shipper) room) 7
 
@@ -47,18 +49,10 @@ abbrev pub answer : Check → ℕ → Listed
 answer Check.Accepted rows = Listed.Rows rows
 answer (Check.Refused x) rows = Listed.Refused x
 
--- of an answer, 01's number (0 where accepted), place, and rows (0 where refused)
-abbrev pub number : Listed → ℕ
-number (Listed.Rows many) = 0
-number (Listed.Refused x) = x .number
-
-abbrev pub place : Listed → ℕ
-place (Listed.Rows many) = 0
-place (Listed.Refused x) = x .place
-
-abbrev pub rows : Listed → ℕ
-rows (Listed.Rows many) = many
-rows (Listed.Refused x) = 0
+-- 01's number, place and figure of each case
+abbrev pub verdict : Listed → Verdict ℕ
+verdict (Listed.Rows many) = accepting many
+verdict (Listed.Refused x) = refusing x 0
 
 -- the lent list with a column at its front
 abbrev pub with-column : Counts → (ℕ → ℕ) → ℕ → List ℕ → List ℕ

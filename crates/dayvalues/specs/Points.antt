@@ -3,6 +3,7 @@ use mathlib.Core.List.{List}
 use Prim.Native.Nat.{ℕ}
 use Rattle.columns.specs.Column.{col}
 use Rattle.units.specs.declared.refusal.Check.{Check}
+use Rattle.units.specs.Verdict.{Verdict, accepting, refusing}
 use Rattle.dayformat.specs.declared.form.Tag.the-variants as Tag
 use Rattle.dayformat.specs.declared.layout.Counts.{Counts}
 use Rattle.dayvalues.specs.declared.points.Point.{Point}
@@ -25,15 +26,7 @@ point-where (Check.Refused x) point = PointRow.Refused x
 abbrev pub point-answer : Counts → List ℕ → ℕ → PointRow
 point-answer counts numbers row = point-where (row-check counts numbers Tag.Point row) (point-of counts (col numbers) row)
 
--- 01's number (0 where accepted), place, and figures (0 where refused)
-abbrev pub number : PointRow → ℕ
-number (PointRow.Point point) = 0
-number (PointRow.Refused x) = x .number
-
-abbrev pub place : PointRow → ℕ
-place (PointRow.Point point) = 0
-place (PointRow.Refused x) = x .place
-
-abbrev pub figures : PointRow → Point
-figures (PointRow.Point point) = point
-figures (PointRow.Refused x) = record { side = 0; point = 0; capacity = record { 0 = 0 } }
+-- 01's number, place and figures of each case
+abbrev pub verdict : PointRow → Verdict Point
+verdict (PointRow.Point point) = accepting point
+verdict (PointRow.Refused x) = refusing x (record { side = 0; point = 0; capacity = record { 0 = 0 } })

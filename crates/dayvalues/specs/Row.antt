@@ -11,6 +11,7 @@ use Rattle.dayformat.specs.declared.form.Tag.{Tag}
 use Rattle.dayformat.specs.declared.layout.Counts.{Counts}
 use Rattle.dayformat.specs.Format.{body, column-in}
 use Rattle.dayformat.specs.Layout.{count, row-start, numbers-in}
+use Rattle.dayformat.specs.Acceptance.{counts-check}
 use Rattle.dayrows.specs.Test.{within, bounded}
 
 -- the number at a place of a row
@@ -25,10 +26,11 @@ beyond counts numbers tag row place = not (within (column-in (body tag) place) (
 unfoldable pub beyond-row : Counts → (ℕ → ℕ) → Tag → ℕ → ℕ
 beyond-row counts numbers tag row = cond (bounded numbers tag (row-start counts tag row)) (count counts tag) row
 
--- refused: 9 not as many numbers as the counts say; 3 a row beyond the count, one of its numbers
+-- refused: 9 not as many numbers as the counts say; 3 a count, a row beyond its count, one of its numbers
 unfoldable pub row-check : Counts → List ℕ → Tag → ℕ → Check
 row-check counts numbers tag row =
     Check.Accepted
     then keep (eqb (length numbers) (numbers-in counts)) 9
+    then counts-check counts
     then keep (ltb row (count counts tag)) 3
     then clear (count counts tag) (beyond-row counts (col numbers) tag row) 3

@@ -3,6 +3,7 @@ use mathlib.Core.List.{List}
 use Prim.Native.Nat.{ℕ}
 use Rattle.columns.specs.Column.{col}
 use Rattle.units.specs.declared.refusal.Check.{Check}
+use Rattle.units.specs.Verdict.{Verdict, accepting, refusing}
 use Rattle.dayformat.specs.declared.form.Tag.the-variants.{Shipper}
 use Rattle.dayformat.specs.declared.layout.Counts.{Counts}
 use Rattle.dayvalues.specs.declared.shippers.ShipperRow.{ShipperRow}
@@ -19,15 +20,7 @@ shipper-where (Check.Refused x) shipper = ShipperRow.Refused x
 abbrev pub shipper-answer : Counts → List ℕ → ℕ → ShipperRow
 shipper-answer counts numbers row = shipper-where (row-check counts numbers Shipper row) (shipper-of counts (col numbers) row)
 
--- 01's number (0 where accepted), place, and the shipper (0 where refused)
-abbrev pub number : ShipperRow → ℕ
-number (ShipperRow.Shipper s) = 0
-number (ShipperRow.Refused x) = x .number
-
-abbrev pub place : ShipperRow → ℕ
-place (ShipperRow.Shipper s) = 0
-place (ShipperRow.Refused x) = x .place
-
-abbrev pub shipper : ShipperRow → ℕ
-shipper (ShipperRow.Shipper s) = s
-shipper (ShipperRow.Refused x) = 0
+-- 01's number, place and figure of each case
+abbrev pub verdict : ShipperRow → Verdict ℕ
+verdict (ShipperRow.Shipper shipper) = accepting shipper
+verdict (ShipperRow.Refused x) = refusing x 0

@@ -5,7 +5,6 @@ use dayformat::Counts;
 use dayformat::Tag;
 use dayformat::numbers_of;
 use units::Check;
-use units::MOST_ROWS;
 use units::Refusal;
 ghost use mathlib.Core.Path.{_≡_};
 ghost use Prim.Native.Nat.{_≤_, _<_};
@@ -62,7 +61,7 @@ fn examine_column(counts: Counts, numbers: &[usize], place: u32, room: usize) ->
     let rows = counts.shippers as usize;
     let counted = Check::Accepted
         .keep(numbers.len() == numbers_of(counts), 9)
-        .keep(rows <= MOST_ROWS, 3);
+        .then(counts.check());
     match counted {
         Check::Refused(refusal) => Check::Refused(refusal),
         Check::Accepted => Check::Accepted

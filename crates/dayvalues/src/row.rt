@@ -57,6 +57,7 @@ pub fn check_row(counts: Counts, numbers: &[usize], tag: Tag, row: u32) -> Check
     let beyond = beyond_row(counts, numbers, tag, row);
     Check::Accepted
         .keep(numbers.len() == numbers_of(counts), 9)
+        .then(counts.check())
         .keep(row < rows, 3)
         .clear(rows as usize, beyond as usize, 3)
 }

@@ -17,8 +17,8 @@ use Rattle.dayformat.specs.declared.day.Day.{Day}
 use Rattle.dayformat.specs.declared.form.Tag.{Tag}
 use Rattle.dayformat.specs.declared.form.Tag.the-variants.{Head, Shipper, Point, Entry, Meter}
 use Rattle.dayformat.specs.declared.layout.Counts.{Counts}
-use Rattle.dayformat.specs.Format.{form}
 use Rattle.dayformat.specs.Layout.{count, numbers-in}
+use Rattle.dayformat.proofs.Accepting.{Few, few, few-accepted}
 use Rattle.dayformat.proofs.Small.{Table}
 use Rattle.dayrows.specs.declared.Source.the-variants.{File}
 use Rattle.dayrows.specs.declared.Test.{Test}
@@ -35,7 +35,7 @@ pub record Sound (day : Day) (numbers : List ℕ) : Type 0 where
   pub long : length numbers ≡ numbers-in (day .counts)
   pub free-flow : day .head .«free_flow» .0 ≤ most-gigajoules
   pub compressor : day .head .compressor .0 ≤ most-gigajoules
-  pub few : (tag : Tag) → count (day .counts) tag ≤ form tag .most
+  pub few : Few (day .counts)
   pub passes : (tag : Tag) → Table tag → (test : Test) → Passed test (day .counts) (col numbers) tag
 
 -- ---- one test over the tables
@@ -80,29 +80,13 @@ module _ (test : Test) (number : ℕ) (counts : Counts) (numbers : ℕ → ℕ) 
       (table-clear Meter (pass Meter tt))
 
 -- ---- the head and the counts
-count-few : (counts : Counts) → count counts Shipper ≤ form Shipper .most → count counts Point ≤ form Point .most
-    → count counts Entry ≤ form Entry .most → count counts Meter ≤ form Meter .most → (tag : Tag) → count counts tag ≤ form tag .most
-count-few counts s p e m Head = omega arith
-count-few counts s p e m Shipper = s
-count-few counts s p e m Point = p
-count-few counts s p e m Entry = e
-count-few counts s p e m Meter = m
-
 singles-accept : (day : Day) → day .head .«free_flow» .0 ≤ most-gigajoules → day .head .compressor .0 ≤ most-gigajoules
-    → ((tag : Tag) → count (day .counts) tag ≤ form tag .most) → singles day ≡ Check.Accepted
+    → Few (day .counts) → singles day ≡ Check.Accepted
 unfolding singles
 singles-accept day free-flow compressor few =
     accepts-both
-    (accepts-both
-    (accepts-both
-    (accepts-both
-    (accepts-both
-    (accepts-both refl (accepts-kept 3 (le-leb _ _ free-flow)))
-    (accepts-kept 3 (le-leb _ _ compressor)))
-    (accepts-kept 3 (le-leb _ _ (few Shipper))))
-    (accepts-kept 3 (le-leb _ _ (few Point))))
-    (accepts-kept 3 (le-leb _ _ (few Entry))))
-    (accepts-kept 3 (le-leb _ _ (few Meter)))
+    (accepts-both (accepts-both refl (accepts-kept 3 (le-leb _ _ free-flow))) (accepts-kept 3 (le-leb _ _ compressor)))
+    (few-accepted (day .counts) few)
 
 -- ---- the whole
 module _ (day : Day) (numbers : List ℕ) where
@@ -115,19 +99,14 @@ module _ (day : Day) (numbers : List ℕ) where
       let bounds = both-accepted _ _ (keys .0) in
       let figures = both-accepted _ _ (figures-rows .0) in
       let lengths = both-accepted _ _ (figures .0) in
-      let meters = both-accepted _ _ (figures .1) in
-      let entries = both-accepted _ _ (meters .0) in
-      let points = both-accepted _ _ (entries .0) in
-      let shippers = both-accepted _ _ (points .0) in
-      let compressor = both-accepted _ _ (shippers .0) in
+      let counts = both-accepted _ _ (figures .1) in
+      let compressor = both-accepted _ _ (counts .0) in
       let free-flow = both-accepted _ _ (compressor .0) in
       record {
         long = eqb-true _ _ (kept _ _ (lengths .1));
         free-flow = leb-true _ _ (kept _ _ (free-flow .1));
         compressor = leb-true _ _ (kept _ _ (compressor .1));
-        few =
-            count-few (day .counts) (leb-true _ _ (kept _ _ (shippers .1))) (leb-true _ _ (kept _ _ (points .1)))
-            (leb-true _ _ (kept _ _ (entries .1))) (leb-true _ _ (kept _ _ (meters .1)));
+        few = few (day .counts) (counts .1);
         passes = by (bounds .1) (keys .1) (mdqs .1);
       }
     where

@@ -3,5 +3,6 @@ pub mod Sizes
 pub mod FieldLaying
 pub mod Answers
 pub mod Accepting
+pub mod Decided
 pub mod Determined
 pub mod Examining

@@ -11,8 +11,8 @@ use Rattle.dayformat.specs.declared.day.Day.{Day}
 use Rattle.dayformat.specs.declared.form.Tag.{Tag}
 use Rattle.dayformat.specs.declared.form.Tag.the-variants as Tag
 use Rattle.dayformat.specs.declared.layout.Counts.{Counts}
-use Rattle.dayformat.specs.Format.{form}
 use Rattle.dayformat.specs.Layout.{count, numbers-in, file-size}
+use Rattle.dayformat.specs.Acceptance.{counts-check}
 use Rattle.dayrows.specs.declared.Test.{Test}
 use Rattle.dayrows.specs.declared.Test.the-variants as Test
 use Rattle.dayrows.specs.Test.{first-failing}
@@ -23,10 +23,7 @@ singles day =
     Check.Accepted
     then keep (leb (day .head .«free_flow» .0) most-gigajoules) 3
     then keep (leb (day .head .compressor .0) most-gigajoules) 3
-    then keep (leb (count (day .counts) Tag.Shipper) (form Tag.Shipper .most)) 3
-    then keep (leb (count (day .counts) Tag.Point) (form Tag.Point .most)) 3
-    then keep (leb (count (day .counts) Tag.Entry) (form Tag.Entry .most)) 3
-    then keep (leb (count (day .counts) Tag.Meter) (form Tag.Meter .most)) 3
+    then counts-check (day .counts)
 
 -- one test over the tables in file order: refused by its number at the lowest row
 unfoldable pub tables : Test → ℕ → Counts → (ℕ → ℕ) → Check

@@ -8,6 +8,7 @@ use Rattle.columns.specs.Column.{col}
 use Rattle.units.specs.declared.refusal.Check.{Check}
 use Rattle.units.specs.declared.refusal.Check.the-variants as Check
 use Rattle.units.specs.Refusals.{accepted-or}
+use Rattle.units.specs.Verdict.{Verdict, accepting, refusing}
 use Rattle.dayformat.specs.declared.day.Day.{Day}
 use Rattle.dayformat.specs.Layout.{file-size}
 use Rattle.daywriter.specs.declared.Written.{Written}
@@ -15,22 +16,14 @@ use Rattle.daywriter.specs.declared.Written.the-variants.{Refused, Bytes
 use Rattle.daywriter.specs.Written.{file-of}
 use Rattle.daywriter.specs.Acceptance.{check}
 
--- 01's number (0 where accepted), its place, and the figure (zero where refused)
-abbrev pub number : Written → ℕ
-number (Refused refusal) = refusal .number
-number (Bytes many) = 0
-
-abbrev pub place : Written → ℕ
-place (Refused refusal) = refusal .place
-place (Bytes many) = 0
-
-abbrev pub size : Written → ℕ
-size (Refused refusal) = 0
-size (Bytes many) = many
-
 abbrev pub answer : Check → ℕ → Written
 answer (Check.Refused refusal) many = Refused refusal
 answer Check.Accepted many = Bytes many
+
+-- 01's number, place and figure of each case
+abbrev pub verdict : Written → Verdict ℕ
+verdict (Refused refusal) = refusing refusal 0
+verdict (Bytes many) = accepting many
 
 -- the answer, and the lent block before and after
 pub record Answered (day : Day) (numbers lent after : List ℕ) (written : Written) : Type 0 where

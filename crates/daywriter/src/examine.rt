@@ -2,7 +2,6 @@
 use dayformat::Counts;
 use dayformat::Day;
 use dayformat::Tag;
-use dayformat::form_of;
 use dayformat::numbers_of;
 use dayrows::Test;
 use dayrows::first_failing_row;
@@ -45,10 +44,7 @@ fn examine_singles(day: Day) -> Check
     Check::Accepted
         .keep(head.free_flow.0 <= MOST_GIGAJOULES.0, 3)
         .keep(head.compressor.0 <= MOST_GIGAJOULES.0, 3)
-        .keep(counts.shippers <= form_of(Tag::Shipper).most, 3)
-        .keep(counts.points <= form_of(Tag::Point).most, 3)
-        .keep(counts.entries <= form_of(Tag::Entry).most, 3)
-        .keep(counts.meters <= form_of(Tag::Meter).most, 3)
+        .then(counts.check())
 }
 
 // One test over the tables in file order.

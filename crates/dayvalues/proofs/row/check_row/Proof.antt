@@ -16,6 +16,12 @@ numbers-of-requires c κs = search needs
 keep-requires : tie.Need-keep-requires
 keep-requires c κs = search needs
 
+check-requires : tie.Need-check-requires
+check-requires c κs = search needs
+
+then-requires : tie.Need-then-requires
+then-requires c κs = search needs
+
 keep-requires-2 : tie.Need-keep-requires-2
 keep-requires-2 c κs = search needs
 
@@ -32,12 +38,15 @@ returns : tie.Need-returns
 unfolding row-check
 returns c =
     let inside = c .before in
-    let whole = inside .before in
+    let few = inside .before in
+    let whole = few .before .before in
     let all = whole .before in
     let row = all .before in
     rw (
       c .clear .ensures,
       inside .keep2 .ensures,
+      few .then .ensures,
+      few .before .check .ensures,
       whole .keep .ensures,
       all .numbers-of .ensures .0,
       row .beyond-row .ensures,
@@ -52,6 +61,8 @@ check-row-spec =
     beyond-row-requires
     numbers-of-requires
     keep-requires
+    check-requires
+    then-requires
     keep-requires-2
     cast-clear
     cast-clear-2

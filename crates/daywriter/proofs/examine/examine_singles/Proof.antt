@@ -10,63 +10,23 @@ keep-requires c κs = search needs
 keep-requires-2 : tie.Need-keep-requires-2
 keep-requires-2 c κs = search needs
 
-form-of-requires : tie.Need-form-of-requires
-form-of-requires c κs = search needs
+check-requires : tie.Need-check-requires
+check-requires c κs = search needs
 
-keep-requires-3 : tie.Need-keep-requires-3
-keep-requires-3 c κs = search needs
-
-form-of-requires-2 : tie.Need-form-of-requires-2
-form-of-requires-2 c κs = search needs
-
-keep-requires-4 : tie.Need-keep-requires-4
-keep-requires-4 c κs = search needs
-
-form-of-requires-3 : tie.Need-form-of-requires-3
-form-of-requires-3 c κs = search needs
-
-keep-requires-5 : tie.Need-keep-requires-5
-keep-requires-5 c κs = search needs
-
-form-of-requires-4 : tie.Need-form-of-requires-4
-form-of-requires-4 c κs = search needs
-
-keep-requires-6 : tie.Need-keep-requires-6
-keep-requires-6 c κs = search needs
+then-requires : tie.Need-then-requires
+then-requires c κs = search needs
 
 returns : tie.Need-returns
 unfolding singles
 returns c =
-    let meters = c .before .before .before in
-    let entries = meters .before .before .before .before in
-    let points = entries .before .before .before .before in
-    let shippers = points .before .before .before .before in
-    let capacities = shippers .before in
+    let capacities = c .before .before in
     rw (
-      c .keep6 .ensures,
-      meters .form-of4 .ensures,
-      meters .before .keep5 .ensures,
-      entries .form-of3 .ensures,
-      entries .before .keep4 .ensures,
-      points .form-of2 .ensures,
-      points .before .keep3 .ensures,
-      shippers .form-of .ensures,
+      c .then .ensures,
+      c .before .check .ensures,
       capacities .keep2 .ensures,
       capacities .before .before .before .keep .ensures,
     )
 
 pub examine-singles-spec : {M : Type 1} → statement M
 examine-singles-spec =
-    tie.close
-    (tie.spec
-    keep-requires
-    keep-requires-2
-    form-of-requires
-    keep-requires-3
-    form-of-requires-2
-    keep-requires-4
-    form-of-requires-3
-    keep-requires-5
-    form-of-requires-4
-    keep-requires-6
-    returns)
+    tie.close (tie.spec keep-requires keep-requires-2 check-requires then-requires returns)

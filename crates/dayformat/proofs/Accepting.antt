@@ -1,0 +1,44 @@
+-- A day's counts are accepted exactly where each is within its bound.
+use mathlib.Core.Path.{_≡_, refl}
+use Prim.Native.Nat.{_≤_}
+use native.Mathlib.Omega.{arith}
+use borrow.Author.Tests.{leb-true, le-leb}
+use Rattle.units.specs.declared.refusal.Check.{Check}
+use Rattle.units.proofs.Checks.{both-accepted, kept, accepts-both, accepts-kept}
+use Rattle.dayformat.specs.declared.form.Tag.{Tag}
+use Rattle.dayformat.specs.declared.form.Tag.the-variants.{Head, Shipper, Point, Entry, Meter}
+use Rattle.dayformat.specs.declared.layout.Counts.{Counts}
+use Rattle.dayformat.specs.Format.{form}
+use Rattle.dayformat.specs.Layout.{count}
+use Rattle.dayformat.specs.Acceptance.{counts-check}
+
+-- no tag has more fields than it may
+abbrev pub Few : Counts → Type 0
+Few counts = (tag : Tag) → count counts tag ≤ form tag .most
+
+pub few : (counts : Counts) → counts-check counts ≡ Check.Accepted → Few counts
+unfolding counts-check
+few counts e =
+    let meters = both-accepted _ _ e in
+    let entries = both-accepted _ _ (meters .0) in
+    let points = both-accepted _ _ (entries .0) in
+    let shippers = both-accepted _ _ (points .0) in
+    by (leb-true _ _ (kept _ _ (shippers .1))) (leb-true _ _ (kept _ _ (points .1))) (leb-true _ _ (kept _ _ (entries .1)))
+    (leb-true _ _ (kept _ _ (meters .1)))
+  where
+    by : count counts Shipper ≤ form Shipper .most → count counts Point ≤ form Point .most → count counts Entry ≤ form Entry .most
+        → count counts Meter ≤ form Meter .most → Few counts
+    by s p e m Head = omega arith
+    by s p e m Shipper = s
+    by s p e m Point = p
+    by s p e m Entry = e
+    by s p e m Meter = m
+
+pub few-accepted : (counts : Counts) → Few counts → counts-check counts ≡ Check.Accepted
+unfolding counts-check
+few-accepted counts few =
+    accepts-both
+    (accepts-both
+    (accepts-both (accepts-both refl (accepts-kept 3 (le-leb _ _ (few Shipper)))) (accepts-kept 3 (le-leb _ _ (few Point))))
+    (accepts-kept 3 (le-leb _ _ (few Entry))))
+    (accepts-kept 3 (le-leb _ _ (few Meter)))

@@ -1,0 +1,26 @@
+-- The tests decide an answer of `check_meter` and of `meter_delivered`: number 0 exactly where they accept.
+use mathlib.Core.Path.{_≡_}
+use mathlib.Core.List.{List}
+use Prim.Native.Nat.{ℕ}
+use lib.ListN.{length}
+use Rattle.units.specs.declared.refusal.Check.{Check}
+use Rattle.units.specs.Verdict.{of-check, Decided}
+use Rattle.units.proofs.Verdicts.{AllNumbered, _and_, kept-by, checked}
+use Rattle.dayformat.specs.declared.form.Tag.the-variants.{Meter}
+use Rattle.dayformat.specs.declared.layout.Counts.{Counts}
+use Rattle.dayvalues.proofs.Decided.{row-numbered}
+use Rattle.daymeters.specs.Meter.{meter-check}
+use Rattle.daymeters.specs.Hours.{delivered-check, Delivered}
+
+pub meter-decided : (counts : Counts) (numbers : List ℕ) (row : ℕ) {found : Check} → found ≡ meter-check counts numbers row
+    → Decided (meter-check counts numbers row) tt tt (of-check found)
+meter-decided counts numbers row = checked (row-numbered counts numbers row Meter)
+
+delivered-numbered : (counts : Counts) (numbers : List ℕ) (row room : ℕ) → AllNumbered (delivered-check counts numbers row room)
+unfolding delivered-check
+delivered-numbered counts numbers row room = row-numbered counts numbers row Meter and kept-by _ 7 tt tt
+
+pub delivered-decided : {counts : Counts} {numbers : List ℕ} {row : ℕ} {lent : List ℕ} {found : Check} {after : List ℕ}
+    → Delivered counts numbers row lent found after
+    → Decided (delivered-check counts numbers row (length lent)) tt tt (of-check found)
+delivered-decided {counts} {numbers} {row} {lent} D = checked (delivered-numbered counts numbers row (length lent)) (D .answers)
