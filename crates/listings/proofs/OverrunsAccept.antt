@@ -5,7 +5,7 @@ use mathlib.Core.List.{List, [], _∷_}
 use Prim.Native.Nat.{ℕ, _+_, _≤_, _<_}
 use native.Mathlib.Nat.{le-refl}
 use native.Mathlib.Omega.{arith}
-use borrow.Author.Tests.{eq-eqb, le-leb, lt-ltb}
+use borrow.Author.Tests.{le-leb, lt-ltb}
 use lib.Dec.{leb, ltb}
 use Rattle.columns.specs.Column.{col, listed}
 use Rattle.columns.proofs.Lists.{length-listed, col-listed}
@@ -31,6 +31,7 @@ use Rattle.dayvalues.specs.Row.{beyond-row, row-check}
 use Rattle.daymeters.specs.Meter.{meter-check, meter-at}
 use Rattle.daymeters.specs.Hours.{hours-from, megajoules}
 use Rattle.listings.specs.MeterDay.{shipper-day}
+use Rattle.listings.proofs.ReadSound.{counted}
 
 -- megajoules have their figures
 same-figures : (list : List ℕ) → figures (megajoules list) ≡ list
@@ -53,8 +54,7 @@ module _ (day : Day) (numbers : List ℕ) (S : Sound day numbers) (row : ℕ) (l
   pub meter-accepts : meter-check (day .counts) numbers row ≡ Check.Accepted
   unfolding row-check beyond-row
   meter-accepts =
-      accepts-both
-      (accepts-both (accepts-both refl (accepts-kept 9 (eq-eqb _ _ (S .long)))) (accepts-kept 3 (lt-ltb row _ l)))
+      accepts-both (accepts-both (counted day numbers S) (accepts-kept 3 (lt-ltb row _ l)))
       (accepts-clear _ _ _ (rw row-bounded (le-refl (count (day .counts) Meter))))
 
   -- ---- every number is within the bound of its kind

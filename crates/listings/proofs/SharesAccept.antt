@@ -3,9 +3,9 @@ use mathlib.Core.Path.{_≡_, refl, ap, sym, _∙_}
 use mathlib.Core.Bool.{Bool, true, false, cond, not, true≢false}
 use mathlib.Core.List.{List}
 use Prim.Native.Nat.{ℕ, _-_, _≤_, _<_}
-use native.Mathlib.Nat.{le-refl, le-of-eq}
+use native.Mathlib.Nat.{le-of-eq}
 use native.Mathlib.Omega.{arith}
-use borrow.Author.Tests.{eq-eqb, le-leb, le-ltb, lt-ltb}
+use borrow.Author.Tests.{le-leb, le-ltb, lt-ltb}
 use lib.ListN.{length}
 use Rattle.columns.specs.Column.{col, listed}
 use Rattle.columns.proofs.Firsts.{first-none}
@@ -15,7 +15,7 @@ use Rattle.units.specs.Bound.{most-gigajoules}
 use Rattle.units.specs.Refusals.{within, clear}
 use Rattle.units.proofs.Checks.{accepts-both, accepts-kept, accepts-clear, accepts-within}
 use Rattle.daytable.specs.Table.{Table, rows}
-use Rattle.daytable.specs.Acceptance.{lengths, figures, idle, first-idle, check}
+use Rattle.daytable.specs.Acceptance.{figures, idle, first-idle, check}
 use Rattle.dayformat.specs.declared.day.Day.{Day}
 use Rattle.dayformat.specs.declared.form.Tag.the-variants.{Shipper}
 use Rattle.dayformat.specs.Format.{body, column-in}
@@ -29,8 +29,9 @@ use Rattle.dayvalues.specs.Column.{column}
 use Rattle.dayvalues.specs.Column as values
 use Rattle.dayvalues.specs.Row.{beyond}
 use Rattle.numbershares.specs.DayTable.{table-of}
-use Rattle.numbershares.specs.Answer.{columns-check}
 use Rattle.numbershares.specs.Answer as numbershares
+use Rattle.numbershares.proofs.Tables.{table-long}
+use Rattle.listings.proofs.ReadSound.{counted}
 
 -- one of two that are not
 neither : (a b : Bool) → not (cond a true b) ≡ true → (a ≡ false) × (b ≡ false)
@@ -86,20 +87,6 @@ module _ (day : Day) (numbers : List ℕ) (S : Sound day numbers) where
       let inside : row < many = rw length-listed at l in
       rw (col-listed many (figure mdq) row inside, col-listed many (figure schedule) row inside) (fed row inside)))))
 
-  -- ---- 9: the five columns are as long as one another
-  as-long : (f g : ℕ → ℕ) → length (listed many f) ≡ length (listed many g)
-  as-long f g = length-listed many f ∙ sym (length-listed many g)
-
-  long : lengths T ≡ Check.Accepted
-  unfolding lengths
-  long =
-      accepts-both
-      (accepts-both
-      (accepts-both (accepts-both refl (accepts-kept 9 (eq-eqb _ _ (as-long (figure 1) (figure 2)))))
-      (accepts-kept 9 (eq-eqb _ _ (as-long (figure 1) (figure 3)))))
-      (accepts-kept 9 (eq-eqb _ _ (as-long (figure 1) (figure 4)))))
-      (accepts-kept 9 (eq-eqb _ _ (as-long (figure 1) (figure 5))))
-
   few-rows : rows T ≤ 64
   few-rows = rw length-listed (S .few Shipper)
 
@@ -128,19 +115,24 @@ module _ (day : Day) (numbers : List ℕ) (S : Sound day numbers) where
       accepts-both
       (accepts-both
       (accepts-both
-      (accepts-both (accepts-both (accepts-both long within-bound) (none-idle 1 3 (λ row l. fed row l .0)))
+      (accepts-both (accepts-both (accepts-both (table-long day (col numbers)) within-bound) (none-idle 1 3 (λ row l. fed row l .0)))
       (none-idle 2 4 (λ row l. fed row l .1)))
       (accepts-kept 7 (le-leb (rows T) firm (omega (arith, few-rows, f)))))
       (accepts-kept 7 (le-leb (rows T) auction (omega (arith, few-rows, a)))))
       (accepts-kept 7 (le-leb (rows T) lower-tier (omega (arith, few-rows, l))))
 
-  -- ---- and each column can be had by itself
+  -- so the shares accept a day's numbers
+  pub numbers-accept : (firm auction lower-tier : ℕ) → 64 ≤ firm → 64 ≤ auction → 64 ≤ lower-tier
+      → numbershares.check day numbers firm auction lower-tier ≡ Check.Accepted
+  unfolding numbershares.check
+  numbers-accept firm auction lower-tier f a l = accepts-both (counted day numbers S) (shares-accept firm auction lower-tier f a l)
+
+  -- and each column can be had by itself
   pub column-accepts : (place room : ℕ) → place < 6 → 64 ≤ room → values.check (day .counts) numbers place room ≡ Check.Accepted
   unfolding values.check beyond
   column-accepts place room few l =
       accepts-both
-      (accepts-both
-      (accepts-both (accepts-both refl (accepts-kept 9 (eq-eqb _ _ (S .long)))) (accepts-kept 3 (le-leb many 64 (S .few Shipper))))
+      (accepts-both (counted day numbers S)
       (accepts-clear _ _ _
       (le-of-eq
       (sym
@@ -149,20 +141,3 @@ module _ (day : Day) (numbers : List ℕ) (S : Sound day numbers) where
       ap not
       (passes-bounded File (day .counts) (col numbers) Shipper row (S .passes Shipper tt Test.Bounds row k) .1 place few)))))))
       (accepts-kept 7 (le-leb many room (omega (arith, S .few Shipper, l))))
-
-  columns-accept : columns-check (day .counts) numbers ≡ Check.Accepted
-  unfolding columns-check
-  columns-accept =
-      accepts-both
-      (accepts-both
-      (accepts-both
-      (accepts-both (column-accepts 1 64 (omega arith) (le-refl 64)) (column-accepts 2 64 (omega arith) (le-refl 64)))
-      (column-accepts 3 64 (omega arith) (le-refl 64)))
-      (column-accepts 4 64 (omega arith) (le-refl 64)))
-      (column-accepts 5 64 (omega arith) (le-refl 64))
-
-  -- so the shares accept a day's numbers
-  pub numbers-accept : (firm auction lower-tier : ℕ) → 64 ≤ firm → 64 ≤ auction → 64 ≤ lower-tier
-      → numbershares.check day numbers firm auction lower-tier ≡ Check.Accepted
-  unfolding numbershares.check
-  numbers-accept firm auction lower-tier f a l = accepts-both columns-accept (shares-accept firm auction lower-tier f a l)

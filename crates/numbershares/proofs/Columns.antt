@@ -21,7 +21,7 @@ use Rattle.dayvalues.specs.Column.{place-of, column, with-column}
 use Rattle.dayvalues.specs.Column as values
 use Rattle.dayvalues.proofs.Accepting.{column-accepted}
 use Rattle.numbershares.specs.DayTable.{table-of}
-use Rattle.numbershares.specs.Answer.{columns-check}
+use Rattle.numbershares.specs.Leaves.{columns-check, figures-check}
 
 -- ---- acceptance of all is acceptance of each
 pub record EachAccepted (counts : Counts) (numbers : List ℕ) : Type 0 where
@@ -31,10 +31,10 @@ pub record EachAccepted (counts : Counts) (numbers : List ℕ) : Type 0 where
   pub four : values.check counts numbers 4 most-rows ≡ Check.Accepted
   pub five : values.check counts numbers 5 most-rows ≡ Check.Accepted
 
-pub each-accepted : {counts : Counts} {numbers : List ℕ} → columns-check counts numbers ≡ Check.Accepted → EachAccepted counts numbers
-unfolding columns-check
-each-accepted e =
-    let five = both-accepted _ _ e in
+pub each-accepted : (day : Day) (numbers : List ℕ) → figures-check day numbers ≡ Check.Accepted → EachAccepted (day .counts) numbers
+unfolding figures-check columns-check
+each-accepted day numbers e =
+    let five = both-accepted _ _ (both-accepted _ _ e .1) in
     let four = both-accepted _ _ (five .0) in
     let three = both-accepted _ _ (four .0) in
     let two = both-accepted _ _ (three .0) in

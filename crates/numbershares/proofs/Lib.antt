@@ -1,3 +1,5 @@
 pub mod Columns
+pub mod Tables
 pub mod Answers
+pub mod Decided
 pub mod Determined

@@ -2,34 +2,28 @@
 use mathlib.Core.Path.{_≡_}
 use mathlib.Core.List.{List}
 use Prim.Native.Nat.{ℕ}
+use lib.Dec.{eqb}
 use lib.ListN.{length}
 use Rattle.columns.specs.Column.{col}
 use Rattle.units.specs.declared.refusal.Check.{Check}
-use Rattle.units.specs.Bound.{most-rows}
-use Rattle.units.specs.Refusals.{_then_}
+use Rattle.units.specs.Refusals.{_then_, keep}
 use Rattle.daytable.specs.Table.{rows}
 use Rattle.daytable.specs.Acceptance as table
 use Rattle.dayshares.specs.declared.Day.{Day as DayShares}
 use Rattle.dayshares.specs.Given.{firm-given, auction-given, lower-tier-given}
 use Rattle.dayshares.specs.Answer.{shares, answer, leaves}
 use Rattle.dayformat.specs.declared.day.Day.{Day}
-use Rattle.dayformat.specs.declared.layout.Counts.{Counts}
-use Rattle.dayvalues.specs.Column as values
+use Rattle.dayformat.specs.Layout.{numbers-in}
+use Rattle.dayformat.specs.Acceptance.{counts-check}
 use Rattle.numbershares.specs.DayTable.{table-of}
 
--- the numbers have five columns of gigajoules
-unfoldable pub columns-check : Counts → List ℕ → Check
-columns-check counts numbers =
-    values.check counts numbers 1 most-rows
-    then values.check counts numbers 2 most-rows
-    then values.check counts numbers 3 most-rows
-    then values.check counts numbers 4 most-rows
-    then values.check counts numbers 5 most-rows
-
--- which make a table that is shared
+-- refused: 9 not as many numbers as the counts say; 3 a count; then what the table that they make is refused for
 unfoldable pub check : Day → List ℕ → ℕ → ℕ → ℕ → Check
 check day numbers firm auction lower-tier =
-    columns-check (day .counts) numbers then table.check (table-of day (col numbers)) firm auction lower-tier
+    Check.Accepted
+    then keep (eqb (length numbers) (numbers-in (day .counts))) 9
+    then counts-check (day .counts)
+    then table.check (table-of day (col numbers)) firm auction lower-tier
 
 -- the answer, and the three lent lists before and after
 pub record Answered (day : Day) (numbers firm auction lower-tier : List ℕ) (answered : DayShares)

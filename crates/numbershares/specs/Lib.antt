@@ -1,2 +1,3 @@
 pub mod DayTable
 pub mod Answer
+pub mod Leaves

@@ -1,11 +1,13 @@
 // A day's shares from its numbers, opened.
 use dayformat::Counts;
 use dayformat::Day;
+use dayformat::numbers_of;
 use dayshares::share_day;
 use dayvalues::ShipperColumn;
 use dayvalues::check_column;
 use dayvalues::shipper_column;
 use units::Check;
+use units::MOST_GIGAJOULES;
 use units::MOST_ROWS;
 ghost use mathlib.Core.Path.{_≡_};
 ghost use lib.ListN.{replicate};
@@ -15,7 +17,8 @@ ghost use Rattle.units.specs.declared.refusal.Check.the-variants.{Accepted};
 ghost use Rattle.dayshares.specs.Answer as dayshares;
 ghost use Rattle.dayvalues.specs.Column.{place-of, check, with-column};
 ghost use Rattle.numbershares.specs.DayTable.{table-of};
-ghost use Rattle.numbershares.specs.Answer.{columns-check, Answered};
+ghost use Rattle.numbershares.specs.Answer.{Answered};
+ghost use Rattle.numbershares.specs.Leaves.{columns-check, figures-check};
 
 // The first test that one of the five columns fails, in tag 2's order.
 fn check_columns(counts: Counts, numbers: &[usize]) -> Check
@@ -38,6 +41,20 @@ fn column_of(counts: Counts, numbers: &[usize], which: ShipperColumn) -> [u32; 6
     column
 }
 
+// 9 and 3: the counts and the capacities, which are single figures, come before the rows of any column.
+fn check_figures(day: Day, numbers: &[usize]) -> Check
+    ensures { λ r. ⌜ r ≡ figures-check day (now (numbers .entry)) ⌝ }
+{
+    let head = day.head;
+    let counts = day.counts;
+    Check::Accepted
+        .keep(numbers.len() == numbers_of(counts), 9)
+        .then(counts.check())
+        .keep(head.free_flow.0 <= MOST_GIGAJOULES.0, 3)
+        .keep(head.compressor.0 <= MOST_GIGAJOULES.0, 3)
+        .then(check_columns(counts, numbers))
+}
+
 // Shares the day's table out.
 fn share_columns(
     day: Day,
@@ -46,7 +63,7 @@ fn share_columns(
     auction: &mut [u32],
     lower_tier: &mut [u32],
 ) -> dayshares::Day
-    requires { ⌜ columns-check (day .counts) (now numbers) ≡ Accepted ⌝ }
+    requires { ⌜ figures-check day (now numbers) ≡ Accepted ⌝ }
     ensures { λ r. ⌜ dayshares.Answered (table-of day (col (now (numbers .entry))))
         (now (firm .entry)) (now (auction .entry)) (now («lower_tier» .entry))
         r
@@ -87,7 +104,7 @@ pub fn share_numbers(
         r
         (now (firm .exit)) (now (auction .exit)) (now («lower_tier» .exit)) ⌝ }
 {
-    let found = check_columns(day.counts, numbers);
+    let found = check_figures(day, numbers);
     match found {
         Check::Refused(refusal) => dayshares::Day::Refused(refusal),
         Check::Accepted => share_columns(day, numbers, firm, auction, lower_tier),

@@ -54,7 +54,7 @@ read-accepted (Refused refusal) found day e = absurd (true≢false (ap is-read e
 
 written-accepted : (check : Check) (found size : ℕ) → Written.Bytes size ≡ writer-answer.answer check found → (check ≡ Accepted)
     × (size ≡ found)
-written-accepted Accepted found size e = (refl, ap writer-answer.size e)
+written-accepted Accepted found size e = (refl, ap (λ written. writer-answer.verdict written .figures) e)
 written-accepted (Refused refusal) found size e = absurd (true≢false (ap is-written e))
   where
     is-written : Written → Bool

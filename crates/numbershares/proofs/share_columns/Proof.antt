@@ -15,7 +15,7 @@ abbrev start-of : tie.After-struct-known → tie.Start
 start-of c = c .before .before .before .before .before .before .before
 
 each-of : (c : tie.After-struct-known) → EachAccepted (start-of c .args .day .counts) (start-of c .args .numbers .now)
-each-of c = each-accepted (start-of c .pre)
+each-of c = each-accepted (start-of c .args .day) (start-of c .args .numbers .now) (start-of c .pre)
 
 few-of : (c : tie.After-struct-known) → count (start-of c .args .day .counts) Shipper ≤ most-rows
 few-of c = few-rows (start-of c .args .day .counts) (start-of c .args .numbers .now) (each-of c)

@@ -1,12 +1,12 @@
--- A refused column refuses; the table of accepted ones is shared.
+-- A refused figure refuses; the table of accepted ones is shared.
 use mathlib.Core.Path.{sym, _∙_}
-use Rattle.numbershares.proofs.Answers.{columns-refuse, table-decides}
+use Rattle.numbershares.proofs.Answers.{figures-refuse, table-decides}
 use borrow.Author.Needs.{needs}
 use Rattle.numbershares.proofs.share_numbers.Statement.{statement}
 use Rattle.numbershares.proofs.share_numbers.Tie as tie
 
-check-columns-requires : tie.Need-check-columns-requires
-check-columns-requires c κs = search needs
+check-figures-requires : tie.Need-check-figures-requires
+check-figures-requires c κs = search needs
 
 enum-known-found : tie.Need-enum-known-found
 enum-known-found c = search needs
@@ -17,10 +17,10 @@ enum-told c = search needs
 share-columns-requires : tie.Need-share-columns-requires
 share-columns-requires c κs =
     let told = c .before .before .before in
-    sym (told .before .before .check-columns .ensures) ∙ told .enum-told .given .1
+    sym (told .before .before .check-figures .ensures) ∙ told .enum-told .given .1
 
 returns : tie.Need-returns
-returns c = columns-refuse (c .before .before .before .check-columns .ensures) _ (c .before .found .given .1)
+returns c = figures-refuse _ _ _ _ _ (c .before .before .before .check-figures .ensures) _ (c .before .found .given .1)
 
 same-length : tie.Need-same-length
 same-length c = search needs
@@ -35,13 +35,13 @@ returns-2 : tie.Need-returns-2
 returns-2 c =
     let shared = c .before .before .before .before .before .before in
     let told = shared .before .before .before .before in
-    table-decides (told .before .before .check-columns .ensures) (told .enum-told .given .1) (shared .share-columns .ensures)
+    table-decides _ _ _ _ _ (told .before .before .check-figures .ensures) (told .enum-told .given .1) (shared .share-columns .ensures)
 
 pub share-numbers-spec : {M : Type 1} → statement M
 share-numbers-spec =
     tie.close
     (tie.spec
-    check-columns-requires
+    check-figures-requires
     enum-known-found
     enum-told
     share-columns-requires
