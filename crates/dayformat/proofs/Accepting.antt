@@ -16,9 +16,9 @@ use Rattle.dayformat.specs.Acceptance.{counts-check}
 abbrev pub Few : Counts → Type 0
 Few counts = (tag : Tag) → count counts tag ≤ form tag .most
 
-pub few : (counts : Counts) → counts-check counts ≡ Check.Accepted → Few counts
+pub counts-accepted : (counts : Counts) → counts-check counts ≡ Check.Accepted → Few counts
 unfolding counts-check
-few counts e =
+counts-accepted counts e =
     let meters = both-accepted _ _ e in
     let entries = both-accepted _ _ (meters .0) in
     let points = both-accepted _ _ (entries .0) in
@@ -34,9 +34,9 @@ few counts e =
     by s p e m Entry = e
     by s p e m Meter = m
 
-pub few-accepted : (counts : Counts) → Few counts → counts-check counts ≡ Check.Accepted
+pub counts-accept : (counts : Counts) → Few counts → counts-check counts ≡ Check.Accepted
 unfolding counts-check
-few-accepted counts few =
+counts-accept counts few =
     accepts-both
     (accepts-both
     (accepts-both (accepts-both refl (accepts-kept 3 (le-leb _ _ (few Shipper)))) (accepts-kept 3 (le-leb _ _ (few Point))))

@@ -1,4 +1,4 @@
--- A number that is not beyond its bounds is at most the greatest of its kind; a number of gigajoules is beyond them just above that.
+-- A number that is not beyond its bounds is at most the greatest of its kind; of gigajoules just those above the greatest are beyond.
 use mathlib.Core.Path.{_≡_, refl}
 use mathlib.Core.Bool.{Bool, true, false, not}
 use Prim.Native.Nat.{ℕ, _≤_}

@@ -17,7 +17,7 @@ use Rattle.dayformat.specs.declared.form.Tag.{Tag}
 use Rattle.dayformat.specs.declared.form.Tag.the-variants.{Head, Shipper, Point, Entry, Meter}
 use Rattle.dayformat.specs.declared.layout.Counts.{Counts}
 use Rattle.dayformat.specs.Layout.{count, numbers-in}
-use Rattle.dayformat.proofs.Accepting.{Few, few, few-accepted}
+use Rattle.dayformat.proofs.Accepting.{Few, counts-accepted, counts-accept}
 use Rattle.dayformat.proofs.Small.{Table}
 use Rattle.dayrows.specs.declared.Source.the-variants.{File}
 use Rattle.dayrows.specs.declared.Test.{Test}
@@ -85,7 +85,7 @@ unfolding singles
 singles-accept day free-flow compressor few =
     accepts-both
     (accepts-both (accepts-both refl (accepts-kept 3 (le-leb _ _ free-flow))) (accepts-kept 3 (le-leb _ _ compressor)))
-    (few-accepted (day .counts) few)
+    (counts-accept (day .counts) few)
 
 -- ---- the whole
 module _ (day : Day) (numbers : List ℕ) where
@@ -105,7 +105,7 @@ module _ (day : Day) (numbers : List ℕ) where
         long = eqb-true _ _ (kept _ _ (lengths .1));
         free-flow = leb-true _ _ (kept _ _ (free-flow .1));
         compressor = leb-true _ _ (kept _ _ (compressor .1));
-        few = few (day .counts) (counts .1);
+        few = counts-accepted (day .counts) (counts .1);
         passes = by (bounds .1) (keys .1) (mdqs .1);
       }
     where

@@ -12,7 +12,7 @@ use Rattle.bigendian.specs.Number.{AreBytes}
 use Rattle.dayformat.specs.declared.day.Day.{Day}
 use Rattle.dayformat.specs.Layout.{numbers-in}
 use Rattle.dayformat.specs.Acceptance.{counts-check}
-use Rattle.dayformat.proofs.Accepting.{few-accepted}
+use Rattle.dayformat.proofs.Accepting.{counts-accept}
 use Rattle.dayfile.specs.File.{tables, walked}
 use Rattle.dayfile.specs.Answer.{day-of}
 use Rattle.daywriter.proofs.Accepting.{Sound, accepting}
@@ -25,4 +25,4 @@ read-sound file are none = accepting (day-of file) (tables file .numbers) (day-a
 pub counted : (day : Day) (numbers : List ℕ) → Sound day numbers
     → (Check.Accepted then keep (eqb (length numbers) (numbers-in (day .counts))) 9 then counts-check (day .counts)) ≡ Check.Accepted
 counted day numbers S =
-    accepts-both (accepts-both refl (accepts-kept 9 (eq-eqb _ _ (S .long)))) (few-accepted (day .counts) (S .few))
+    accepts-both (accepts-both refl (accepts-kept 9 (eq-eqb _ _ (S .long)))) (counts-accept (day .counts) (S .few))

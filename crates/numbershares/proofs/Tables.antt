@@ -22,7 +22,7 @@ use Rattle.dayformat.specs.declared.form.Tag.the-variants.{Shipper}
 use Rattle.dayformat.specs.Format.{name, gigajoules, _of_}
 use Rattle.dayformat.specs.Layout.{count, numbers-in}
 use Rattle.dayformat.specs.Acceptance.{counts-check}
-use Rattle.dayformat.proofs.Accepting.{few}
+use Rattle.dayformat.proofs.Accepting.{counts-accepted}
 use Rattle.dayformat.proofs.Bodies.{among}
 use Rattle.dayvalues.specs.Row.{beyond}
 use Rattle.dayvalues.specs.Column.{column, first-beyond}
@@ -97,7 +97,7 @@ module _ (day : Day) (numbers : List ℕ) where
 
   module _ (accepted : counted ≡ Accepted) where
     few-rows : many day (col numbers) ≤ most-rows
-    few-rows = few (day .counts) (both-accepted _ _ accepted .1) Shipper
+    few-rows = counts-accepted (day .counts) (both-accepted _ _ accepted .1) Shipper
 
     column-is : (place : ℕ) → 1 ≤ place → place < 6 → values.check (day .counts) numbers place most-rows ≡ tested place
     unfolding values.check _then_

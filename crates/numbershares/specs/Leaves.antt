@@ -1,4 +1,4 @@
--- What the tests before the table find: its figures are then gigajoules.
+-- What is tested before lists of gigajoules are made of a day's numbers.
 use mathlib.Core.List.{List}
 use Prim.Native.Nat.{ℕ}
 use lib.Dec.{leb, eqb}

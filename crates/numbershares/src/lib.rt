@@ -31,16 +31,6 @@ fn check_columns(counts: Counts, numbers: &[usize]) -> Check
         .then(check_column(counts, numbers, ShipperColumn::LowerTierSchedule, MOST_ROWS))
 }
 
-// A column of gigajoules, zeros past its rows.
-fn column_of(counts: Counts, numbers: &[usize], which: ShipperColumn) -> [u32; 64]
-    requires { ⌜ check counts (now numbers) (place-of which) most-rows ≡ Accepted ⌝ }
-    ensures { λ r. ⌜ r ≡ with-column counts (col (now (numbers .entry))) (place-of which) (replicate most-rows 0) ⌝ }
-{
-    let mut column = [0u32; MOST_ROWS];
-    shipper_column(counts, numbers, which, &mut column);
-    column
-}
-
 // 9 and 3: the counts and the capacities, which are single figures, come before the rows of any column.
 fn check_figures(day: Day, numbers: &[usize]) -> Check
     ensures { λ r. ⌜ r ≡ figures-check day (now (numbers .entry)) ⌝ }
@@ -53,6 +43,16 @@ fn check_figures(day: Day, numbers: &[usize]) -> Check
         .keep(head.free_flow.0 <= MOST_GIGAJOULES.0, 3)
         .keep(head.compressor.0 <= MOST_GIGAJOULES.0, 3)
         .then(check_columns(counts, numbers))
+}
+
+// A column of gigajoules, zeros past its rows.
+fn column_of(counts: Counts, numbers: &[usize], which: ShipperColumn) -> [u32; 64]
+    requires { ⌜ check counts (now numbers) (place-of which) most-rows ≡ Accepted ⌝ }
+    ensures { λ r. ⌜ r ≡ with-column counts (col (now (numbers .entry))) (place-of which) (replicate most-rows 0) ⌝ }
+{
+    let mut column = [0u32; MOST_ROWS];
+    shipper_column(counts, numbers, which, &mut column);
+    column
 }
 
 // Shares the day's table out.
