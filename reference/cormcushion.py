@@ -6,8 +6,9 @@ python3 reference/cormcushion.py shares|charges [RATE]|points < file
 import sys
 
 from bounds import RATE
+from decimals import decimal_of
 from listings import charges_listing, lines, points_listing, refusal_row, shares_listing
-from refusals import Refusal, require, require_figures
+from refusals import Refusal, require
 from tariff import OVERRUN_RATE
 
 LISTINGS = ("shares", "charges", "points")
@@ -17,12 +18,8 @@ def rate_from(words):
     """One decimal number within the bound of a rate; Schedule 2's where none is given."""
     if not words:
         return OVERRUN_RATE
-    require(len(words) == 1 and words[0].isascii() and words[0].isdecimal(), 3)
-    digits = words[0].lstrip("0")
-    require(len(digits) <= len(str(RATE[-1])), 3)
-    rate = int(digits or "0")
-    require_figures(RATE, rate)
-    return rate
+    require(len(words) == 1, 3)
+    return decimal_of(words[0].encode(errors="surrogateescape"), RATE[-1])
 
 
 def listing(name, words, file):

@@ -79,12 +79,17 @@ def read_day(file, room=None):
     return day
 
 
+def require_counted(counts, numbers):
+    """As many numbers as the counts say, and no count beyond its bound."""
+    require(len(numbers) == block_size(counts), 9)
+    for tag, count in zip(TABLES, counts):
+        require_figures(FORMS[tag].count, count)
+
+
 def write_day(day, room=None):
     """Refuses number by number over all tables; room is how many bytes are lent."""
-    require(len(day.numbers) == block_size(day.counts), 9)
+    require_counted(day.counts, day.numbers)
     require(numbers_are_bounded(HEAD, day.head), 3)
-    for tag, count in zip(TABLES, day.counts):
-        require_figures(FORMS[tag].count, count)
     tables = tables_of(day)
     for number, is_kept in ROW_TESTS:
         for tag in TABLES:

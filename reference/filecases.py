@@ -34,9 +34,13 @@ class Block(NamedTuple):
     lent: int
     spell: Callable
 
+    def after(self, answer, room):
+        """The block after the call: the answer at its front, and the rest as it was lent."""
+        return [*answer, *[self.lent] * (room - len(answer))]
+
     def words(self, answer, room):
         """Up to the last element that is not as it was lent, then how many are kept after it."""
-        block = [*answer, *[self.lent] * (room - len(answer))]
+        block = self.after(answer, room)
         kept = 0
         while kept < room and block[room - kept - 1] == self.lent:
             kept += 1

@@ -2,8 +2,9 @@
 
 from dayfile import read_day, tables_of
 from dayformat import ENTRY, METER, POINT, SHIPPER
+from daymeters import hours_of, yesterday_of
 from dayshares import share_day
-from overruns import BackhaulMetered, Schedules, Sides, day_overruns
+from overruns import BackhaulMetered, Schedules, day_overruns
 from pointshares import hour_at_point
 from refusals import Refusal
 from tariff import overrun_charge
@@ -37,8 +38,8 @@ def meter_overruns(meter):
     return day_overruns(
         p=meter[1],
         m=meter[2],
-        yesterday=meter[3:14],
-        hours=Sides(delivered=meter[14:38], received=meter[38:62]),
+        yesterday=yesterday_of(meter),
+        hours=hours_of(meter),
         schedules=Schedules(*meter[62:66]),
         metered=BackhaulMetered(*meter[66:68]),
     )

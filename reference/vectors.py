@@ -10,13 +10,19 @@ from typing import Callable, NamedTuple
 
 import cases
 import chargecases
+import columncases
 import daycases
+import decimalcases
 import entrycases
 import filecases
 import gascases
+import hourcases
+import metercases
 import overruncases
+import rowcases
 import sharecases
 import textcases
+import valuecases
 
 CRATES = pathlib.Path(__file__).resolve().parent.parent.joinpath("crates")
 
@@ -48,6 +54,18 @@ PROGRAMS = (
         (*daycases.ROUTINES, *entrycases.ROUTINES, *textcases.ROUTINES),
         filecases.cases_of,
         filecases.words_of,
+    ),
+    Program(
+        "valuevectors",
+        (
+            *rowcases.ROUTINES,
+            *columncases.ROUTINES,
+            *metercases.ROUTINES,
+            *hourcases.ROUTINES,
+            *decimalcases.ROUTINES,
+        ),
+        filecases.cases_of,
+        valuecases.words_of,
     ),
 )
 

@@ -1,0 +1,53 @@
+// A day in memory: its head and counts, then how many numbers it has, and two byte strings of their halves. A number past these is 0.
+use crate::case::bytes;
+use crate::case::past;
+use crate::case::past_bytes;
+use crate::case::smaller;
+use crate::case::wide;
+use crate::case::word;
+use dayformat::Counts;
+use dayformat::Day;
+use dayformat::Head;
+use units::Gigajoules;
+ghost use Prim.Native.Nat.{_≤_};
+
+// No day has more numbers: one more than a full one.
+pub const MOST_NUMBERS: usize = 6_881;
+
+pub fn day_of(case: &[u8]) -> Day {
+    Day {
+        head: Head {
+            day: word(case, 0),
+            free_flow: Gigajoules(word(case, 1)),
+            compressor: Gigajoules(word(case, 2)),
+        },
+        counts: counts_of(case),
+    }
+}
+
+pub fn counts_of(case: &[u8]) -> Counts {
+    Counts {
+        shippers: word(case, 3),
+        points: word(case, 4),
+        entries: word(case, 5),
+        meters: word(case, 6),
+    }
+}
+
+// How many numbers it has.
+pub fn length_of(case: &[u8]) -> usize
+    ensures { λ r. ⌜ r ≤ 6881 ⌝ }
+{
+    smaller(word(case, 7) as usize, MOST_NUMBERS)
+}
+
+pub fn numbers_of(case: &[u8]) -> [usize; MOST_NUMBERS] {
+    let halves = past(case, 8);
+    let lower = bytes(halves);
+    let higher = bytes(past_bytes(halves));
+    let mut numbers = [0usize; MOST_NUMBERS];
+    for place in 0..MOST_NUMBERS {
+        numbers[place] = wide(word(higher, place), word(lower, place));
+    }
+    numbers
+}

@@ -1,0 +1,64 @@
+// The routines on a day in memory, run on cases of the second program: each case is read from standard input, and its answer printed on a line.
+mod answers;
+mod case;
+mod columns;
+mod day;
+mod meters;
+mod rows;
+mod texts;
+
+use case::past;
+use case::smaller;
+use case::word;
+
+// No case has more words: what a large buffer holds.
+const MOST_WORDS: usize = 16_384;
+
+// A proved loop has to end, and nothing says that the input does: it counts down from a number that no run uses up.
+fn main() {
+    let mut turns = u64::MAX;
+    while 0 < turns && answer_next() {
+        turns -= 1;
+    }
+}
+
+// Answers the next case, where there is one: how many words it has, then the words, each of four bytes.
+fn answer_next() -> bool {
+    let mut head = [0u8; 4];
+    if io::read_full(0, &mut head) < 4 {
+        return false;
+    }
+    let size = 4 * smaller(word(&head, 0) as usize, MOST_WORDS);
+    let mut body = io::large_buffer();
+    answer_read(&mut body[0..size]);
+    true
+}
+
+// Reads a case's words, and answers it.
+fn answer_read(body: &mut [u8]) {
+    io::read_full(0, body);
+    answer(body);
+}
+
+// A case's first word is its routine.
+fn answer(case: &[u8]) {
+    let given = past(case, 1);
+    match word(case, 0) {
+        1 => rows::answer_number(given),
+        2 => rows::answer_row(given),
+        3 => rows::answer_shipper(given),
+        4 => rows::answer_point(given),
+        5 => columns::answer_check(given),
+        6 => columns::answer_column(given),
+        7 => columns::answer_shares(given),
+        8 => meters::answer_check(given),
+        9 => meters::answer_figures(given),
+        10 => meters::answer_yesterday(given),
+        11 => meters::answer_hours(given),
+        12 => meters::answer_delivered(given),
+        13 => texts::answer_hour(given),
+        14 => texts::answer_decimal(given),
+        _ => {}
+    }
+    io::write_all(1, b"\n");
+}
