@@ -1,4 +1,4 @@
-"""Cases of the shippers' columns of a day in memory, and of its shares."""
+"""Cases of the columns of a day in memory, and of the shares from its numbers."""
 
 from bounds import GIGAJOULES
 from cases import MOST_ROWS, WORD, Figure, put, some_room, wide
@@ -15,60 +15,60 @@ from valuecases import InMemory, Lent, ValueRoutine
 
 GREATEST = GIGAJOULES[-1]
 
-# A day of shippers alone, so that zeros at its end are its last.
 SHIPPERS = {**SEVERAL, POINT: [], ENTRY: [], METER: []}
 
 
-def answer_check(place, room, day):
+def answer_check(day, place, room):
     shipper_column(day.counts, day.numbers, place, room)
     return [], []
 
 
-def answer_column(place, room, day):
+def answer_column(day, place, room):
     column = shipper_column(day.counts, day.numbers, place, room)
     return [len(column)], [column]
 
 
-def of_every_column(day):
-    return [[place, day.counts.shippers, day] for place in SHIPPER_COLUMNS]
+def every_column(day):
+    return [[day, place, day.counts.shippers] for place in SHIPPER_COLUMNS]
 
 
 def faulty_columns():
-    """Each number of a row at its bounds and beyond, its own column asked for; another column's
-    fault; two rows at fault; and the name, which is of no column."""
+    """Numbers of a row at their bounds and beyond, in the column that is asked for; two rows at
+    fault, and another column; and names, which no column has."""
     own = [edit for edit in row_edits(SHIPPER, 1) if edit.column > 0]
-    beyond = Edit(SHIPPER, 1, 3, GREATEST + 1)
-    two = [beyond, Edit(SHIPPER, 2, 3, GREATEST + 1), Edit(SHIPPER, 0, 2, GREATEST + 1)]
-    named = [day_of(edited(SEVERAL, Edit(SHIPPER, 1, 0, name))) for name in (0, 65_536)]
+    two = [Edit(SHIPPER, 1, 3, GREATEST + 1), Edit(SHIPPER, 2, 3, GREATEST + 1)]
+    another = Edit(SHIPPER, 0, 2, GREATEST + 1)
+    names = [Edit(SHIPPER, 1, 0, name) for name in (0, 65_536)]
     return [
-        *([edit.column, 3, day_of(edited(SEVERAL, edit))] for edit in own),
-        *of_every_column(day_of(edited(SEVERAL, *two))),
-        *([1, 3, day] for day in named),
+        *([day_of(edited(SEVERAL, edit)), edit.column, 3] for edit in own),
+        *every_column(day_of(edited(SEVERAL, *two, another))),
+        *([day_of(edited(SEVERAL, name)), 1, 3] for name in names),
     ]
 
 
 def limit_columns():
-    """63, 64 and 65 shippers, and the other tables' most rows; room for one row less as well."""
+    """63, 64 and 65 shippers, and the other tables' most rows and one more; with room for every
+    row, and for all but one."""
     days = [padded(SHIPPERS, SHIPPER, 63), *limits(SHIPPERS)]
     return [
-        [place, room, day]
-        for place, day in zip((1, 2, 3, 4, 5, 1, 2, 3, 4), days)
-        for room in (day.counts.shippers, day.counts.shippers - 1)
+        [day, index % 5 + 1, day.counts.shippers - short]
+        for index, day in enumerate(days)
+        for short in (0, 1)
     ]
 
 
 def column_cases(chance):
     several = day_of(SEVERAL)
-    short = day_of(edited(SEVERAL, Edit(SHIPPER, 2, 5, GREATEST + 1)))
+    beyond = day_of(edited(SEVERAL, Edit(SHIPPER, 2, 5, GREATEST + 1)))
     return [
-        *of_every_column(several),
-        *of_every_column(make_day()),
-        *([5, room, day] for day in (several, short) for room in (0, 2, 3, 4, MOST_ROWS)),
+        *every_column(several),
+        *every_column(make_day())[:2],
+        *([day, 5, room] for day in (several, beyond) for room in (0, 2, 3, 4, MOST_ROWS)),
         *faulty_columns(),
         *limit_columns(),
-        *([place, 3, day] for place, day in zip((1, 2, 3, 4, 5) * 2, miscounted(several))),
+        *([day, index % 5 + 1, 3] for index, day in enumerate(miscounted(several))),
         *(
-            [chance.choice(SHIPPER_COLUMNS), chance.randint(0, 6), some_edited(chance, SHIPPER)]
+            [some_edited(chance, SHIPPER), chance.choice(SHIPPER_COLUMNS), chance.randint(0, 6)]
             for _ in range(8)
         ),
     ]
@@ -77,18 +77,13 @@ def column_cases(chance):
 def check_cases(chance):
     """The same, and rooms that no list has."""
     several = day_of(SEVERAL)
-    return [*column_cases(chance), *([1, room, several] for room in (2**32 + 2, 2**64 - 1))]
+    return [*column_cases(chance), *([several, 1, room] for room in (2**32 + 2, 2**64 - 1))]
 
 
-def answer_shares(*arguments):
-    *rooms, day = arguments
+def answer_shares(day, *rooms):
     shares = share_numbers(day, rooms)
     figures = [*shares.levels, *shares.totals, shares.left]
     return figures, [shares.firm, shares.auction, shares.lower_tier]
-
-
-def with_head(tables, free_flow, compressor):
-    return {**tables, HEAD: [(20_190_612, free_flow, compressor)]}
 
 
 # 01's figures.
@@ -105,38 +100,45 @@ def shared_day(chance, rows):
     return make_day((1, free_flow, compressor), list(zip(range(1, rows + 1), *lists)))
 
 
-def heads():
-    """Both capacities at their bound and beyond it, of a sound day, of one with a row beyond its
-    bound, of one with a schedule and no MDQ, and of one with a shipper too many."""
-    beyond = [Edit(SHIPPER, 1, place, GREATEST + 1) for place in SHIPPER_COLUMNS]
-    tables = [
-        SEVERAL,
-        *(edited(SEVERAL, edit) for edit in beyond),
-        edited(SEVERAL, Edit(SHIPPER, 1, 1, 0)),
-        tables_of(padded(SHIPPERS, SHIPPER, 65)),
-    ]
-    at = [(GREATEST, GREATEST), (GREATEST + 1, 0), (0, GREATEST + 1), (WORD[-1], WORD[-1])]
+def full_of_shippers():
+    """A full day whose other tables are of zeros."""
+    full = full_day()
+    held = full.counts.shippers * len(FORMS[SHIPPER].columns)
+    return full._replace(numbers=[*full.numbers[:held], *[0] * (len(full.numbers) - held)])
+
+
+def with_capacities(tables, free_flow, compressor):
+    return day_of({**tables, HEAD: [(20_190_612, free_flow, compressor)]})
+
+
+def other_capacities():
+    """Both capacities at their bound and beyond it: of a sound day, of one with a row beyond its
+    bound in each column, of one with a schedule and no MDQ, and of one with a shipper too many."""
+    columns = [edited(SEVERAL, Edit(SHIPPER, 1, place, GREATEST + 1)) for place in SHIPPER_COLUMNS]
+    no_mdq = edited(SEVERAL, Edit(SHIPPER, 1, 1, 0))
+    too_many = tables_of(padded(SHIPPERS, SHIPPER, 65))
+    pairs = [(GREATEST, GREATEST), (GREATEST + 1, 0), (0, GREATEST + 1), (WORD[-1], WORD[-1])]
     return [
-        *(day_of(with_head(table, *head)) for table in tables[:2] for head in at),
-        *(day_of(with_head(table, GREATEST, GREATEST + 1)) for table in tables[2:]),
-        *(day_of(table) for table in tables[1:]),
+        *(with_capacities(tables, *pair) for tables in (SEVERAL, columns[0]) for pair in pairs),
+        *(with_capacities(tables, GREATEST, GREATEST + 1) for tables in columns[1:]),
+        *(with_capacities(tables, GREATEST + 1, GREATEST) for tables in (no_mdq, too_many)),
     ]
 
 
-# Rows at fault in two columns, of which the earlier has the later row; and schedules without MDQ,
-# of which the firm one has the later row.
-TWO = [
-    [Edit(SHIPPER, 2, 1, GREATEST + 1), Edit(SHIPPER, 0, 2, GREATEST + 1)],
-    [Edit(SHIPPER, 2, 2, GREATEST + 1), Edit(SHIPPER, 0, 3, GREATEST + 1)],
-    [Edit(SHIPPER, 2, 3, GREATEST + 1), Edit(SHIPPER, 0, 4, GREATEST + 1)],
-    [Edit(SHIPPER, 2, 4, GREATEST + 1), Edit(SHIPPER, 0, 5, GREATEST + 1)],
+# Two columns at fault, of which the earlier has the later row; a column, and a schedule without its
+# MDQ; and schedules without their MDQ, of which the firm one has the later row.
+ORDERS = [
+    *(
+        [Edit(SHIPPER, 2, place, GREATEST + 1), Edit(SHIPPER, 0, place + 1, GREATEST + 1)]
+        for place in SHIPPER_COLUMNS[:-1]
+    ),
     [Edit(SHIPPER, 2, 5, GREATEST + 1), Edit(SHIPPER, 0, 1, 0)],
     [Edit(SHIPPER, 2, 1, 0), Edit(SHIPPER, 0, 2, 0)],
-    [Edit(SHIPPER, 0, 2, 0)],
-    [Edit(SHIPPER, 0, 1, 0), Edit(SHIPPER, 2, 1, 0)],
+    [Edit(SHIPPER, 2, 1, 0), Edit(SHIPPER, 0, 1, 0)],
+    [Edit(SHIPPER, 2, 2, 0), Edit(SHIPPER, 0, 2, 0)],
 ]
 
-# Numbers of other tables and names beyond their bounds, which the shares don't look at.
+# Names and other tables' numbers, which the shares don't look at.
 ELSEWHERE = [
     Edit(SHIPPER, 0, 0, 0),
     Edit(SHIPPER, 2, 0, 65_536),
@@ -146,35 +148,27 @@ ELSEWHERE = [
 
 
 def faulty_shares():
-    edits = [[edit] for edit in (*row_edits(SHIPPER, 1), *ELSEWHERE)]
-    beyond = day_of(with_head(SEVERAL, GREATEST + 1, 0))
+    edits = [*([edit] for edit in (*row_edits(SHIPPER, 1), *ELSEWHERE)), *ORDERS]
+    beyond = with_capacities(SEVERAL, GREATEST + 1, 0)
     return [
-        *(day_of(edited(SEVERAL, *some)) for some in (*edits, *TWO)),
+        *(day_of(edited(SEVERAL, *some)) for some in edits),
         *miscounted(day_of(SEVERAL)),
         beyond._replace(numbers=beyond.numbers[:-1]),
     ]
 
 
-def full_of_shippers():
-    """A full day whose other tables are of zeros."""
-    full = full_day()
-    held = full.counts.shippers * len(FORMS[SHIPPER].columns)
-    return full._replace(numbers=[*full.numbers[:held], *[0] * (len(full.numbers) - held)])
-
-
 def shares_cases(chance):
     several = day_of(SEVERAL)
-    rows = (3, 0, 1, 2, 4, 5, 8, 20, 64)
-    sound = [*FIGURES, *(shared_day(chance, count) for count in rows)]
-    short = day_of(edited(SEVERAL, Edit(SHIPPER, 0, 1, 0)))
+    no_mdq = day_of(edited(SEVERAL, Edit(SHIPPER, 0, 1, 0)))
+    sound = [*FIGURES, *(shared_day(chance, rows) for rows in (3, 0, 1, 2, 4, 5, 8, 20, 64))]
     rooms = [put([3, 3, 3], index, room) for index in range(3) for room in (0, 2, 4, MOST_ROWS)]
     return [
-        *([*(some_room(chance, day.counts.shippers) for _ in range(3)), day] for day in sound),
-        *([*some, several] for some in rooms),
-        [2, 2, 2, short],
-        *([3, 3, 3, day] for day in (*heads(), *faulty_shares())),
-        *([64, 64, 64, day] for day in limits(SHIPPERS)),
-        [64, 65, 64, full_of_shippers()],
+        *([day, *(some_room(chance, day.counts.shippers) for _ in range(3))] for day in sound),
+        [full_of_shippers(), 64, 65, 64],
+        *([several, *some] for some in rooms),
+        [no_mdq, 2, 2, 2],
+        *([day, 3, 3, 3] for day in (*other_capacities(), *faulty_shares())),
+        *([day, 64, 64, 64] for day in limits(SHIPPERS)),
     ]
 
 
@@ -182,12 +176,12 @@ PLACE = Figure(SHIPPER_COLUMNS)
 
 ROUTINES = (
     ValueRoutine(
-        "check_column", (PLACE, Figure(WORD, wide), InMemory()), answer_check, check_cases
+        "check_column", (InMemory(), PLACE, Figure(WORD, wide)), answer_check, check_cases
     ),
     ValueRoutine(
-        "shipper_column", (PLACE, Lent(NUMBERS), InMemory()), answer_column, column_cases
+        "shipper_column", (InMemory(), PLACE, Lent(NUMBERS)), answer_column, column_cases
     ),
     ValueRoutine(
-        "share_numbers", (*[Lent(NUMBERS)] * 3, InMemory()), answer_shares, shares_cases
+        "share_numbers", (InMemory(), *[Lent(NUMBERS)] * 3), answer_shares, shares_cases
     ),
 )

@@ -13,19 +13,24 @@ from pointhours import hour_text, put_hour
 from valuecases import InMemory, Lent, ValueRoutine
 
 GREATEST, GREATEST_MDQ = MEGAJOULES[-1], GIGAJOULES[-1]
-ANY = up_to(2**64 - 1)
 
 
-def answer_hour(capacity, at, room, part, day):
+def answer_hour(day, capacity, at, room, part):
     block = bytes([BYTES.lent]) * room
     size, after = put_hour(day.counts, day.numbers, part, capacity, block, at)
     return [size], [after]
 
 
 class Hour(NamedTuple):
+    day: Day
     capacity: int
     part: bytes
-    day: Day
+
+    def size(self):
+        return len(hour_text(self.day.counts, self.day.numbers, self.part, self.capacity))
+
+    def laid(self, at, room):
+        return [self.day, self.capacity, at, room, self.part]
 
 
 def hour_of(capacity, entitlements, mdqs):
@@ -33,40 +38,40 @@ def hour_of(capacity, entitlements, mdqs):
     names = range(1, len(mdqs) + 1)
     shippers = [(name, mdq, 7, 8, 9, 10) for name, mdq in zip(names, mdqs)]
     entries = [(1, 9, name, own) for name, own in zip(names, entitlements)]
-    return Hour(capacity, list_of(entries), make_day(shippers=shippers[::-1]))
+    return Hour(make_day(shippers=shippers[::-1]), capacity, list_of(entries))
 
 
-# 01's figures; none, and one alone; H equal to TRE without MDQs, and one above it (6).
-SHARED, SHORT = hour_of(9_000, [4_000, 2_000], [300, 100]), hour_of(5_000, [4_000, 2_000], [300, 100])
-ALONE = hour_of(77, [5], [0])
-FEW = [
-    SHARED,
-    SHORT,
+# 01's figures.
+SHARED = hour_of(9_000, [4_000, 2_000], [300, 100])
+SHORT = hour_of(5_000, [4_000, 2_000], [300, 100])
+
+# Two without MDQs, where H is one above TRE (6).
+REFUSED = hour_of(6_001, [4_000, 2_000], [0, 0])
+
+# No shipper and one; two without MDQs, where H equals TRE; and as many as there may be.
+FEW_AND_MANY = [
     hour_of(8, [], []),
-    ALONE,
+    hour_of(77, [5], [0]),
     hour_of(6_000, [4_000, 2_000], [0, 0]),
-    hour_of(6_001, [4_000, 2_000], [0, 0]),
+    hour_of(GREATEST, [1] * 64, [GREATEST_MDQ] * 64),
+    hour_of(GREATEST, [1] * 65, [GREATEST_MDQ] * 65),
+    SHARED._replace(part=list_of([(0, 2, 1, 5)] * 513)),
 ]
 
-# Figures at their bounds and beyond, alone and together; an entry too many, and far too many.
+# Figures at their bounds and beyond them, alone and two at once.
 BOUNDS = [
     *(hour_of(capacity, [1, 2], [3, 4]) for capacity in (GREATEST, GREATEST + 1, 2**32, 2**64 - 1)),
     *(hour_of(5, [1, own], [3, 4]) for own in (GREATEST, GREATEST + 1, 2**32 - 1)),
-    *(
-        hour_of(5, [1, 2], [3, mdq])
-        for mdq in (GREATEST_MDQ, GREATEST_MDQ + 1, 2**32, 2**32 + 1, 2**64 - 1)
-    ),
+    *(hour_of(5, [1, 2], [3, mdq]) for mdq in (GREATEST_MDQ, GREATEST_MDQ + 1)),
+    *(hour_of(5, [1, 2], [3, mdq]) for mdq in (2**32, 2**32 + 1, 2**64 - 1)),
     hour_of(5, [1, GREATEST + 1], [GREATEST_MDQ + 1, 4]),
     hour_of(GREATEST + 1, [1, GREATEST + 1], [3, 4]),
-    hour_of(GREATEST, [1] * 64, [GREATEST_MDQ] * 64),
-    hour_of(GREATEST, [1] * 65, [GREATEST_MDQ] * 65),
-    hour_of(7, [1], [3])._replace(part=list_of([(0, 2, 1, 5)] * 513)),
 ]
 
 
 def other_parts():
-    """Bytes that are no whole field, headers and points that nothing is asked of, and one shipper
-    twice."""
+    """Bytes that are no whole field; headers, sides and points, which are not looked at; and one
+    shipper twice."""
     part = SHARED.part
     first, second = part[:12], part[12:]
     parts = [
@@ -81,47 +86,39 @@ def other_parts():
 
 
 def other_days():
-    """Tables and counts that are not as they should be, of which nothing is asked; and a last row
-    that the list has only the name of."""
+    """Counts and a list that are not as they should be, which is not tested; and a list that ends
+    before its last MDQ."""
     day = SHARED.day
-    counts = [day.counts._replace(points=33), day.counts._replace(meters=2**32 - 1)]
     days = [
-        *(day._replace(counts=other) for other in counts),
+        day._replace(counts=day.counts._replace(points=33)),
+        day._replace(counts=day.counts._replace(meters=2**32 - 1)),
         day._replace(numbers=[*day.numbers, 5]),
         day._replace(numbers=day.numbers[:7]),
     ]
     return [SHARED._replace(day=other) for other in days]
 
 
-def laid(hour, at=0, spare=0):
-    """A case in whose block so many bytes are left after the lines."""
-    capacity, part, day = hour
-    size = len(hour_text(day.counts, day.numbers, part, capacity))
-    return [capacity, at, max(at + size + spare, 0), part, day]
-
-
-def beyond(hour, room, at):
-    """A case whose lines are laid at a block's end or past it."""
-    return [hour.capacity, at, room, hour.part, hour.day]
-
-
 def hour_cases(chance):
-    refused = FEW[-1]
+    hours = [SHORT, *FEW_AND_MANY, *BOUNDS, *other_parts(), *other_days()]
     rows = (1, 2, 2, 2, 3, 3, 4, 5, 8, 20)
-    some = [(capacity, own, mdqs) for capacity, _, own, mdqs in (some_hour(chance, n) for n in rows)]
+    some = [hour_of(capacity, *lists) for capacity, _, *lists in (some_hour(chance, n) for n in rows)]
     return [
-        *(laid(hour, spare=1) for hour in (*FEW, *BOUNDS, *other_parts(), *other_days())),
-        *(laid(hour, at, spare) for hour in (SHARED, refused) for at in (0, 3) for spare in (-99, -3, -1, 0)),
-        *(beyond(hour, 20, at) for hour in (SHORT, refused) for at in (19, 20, 21, 2**32, 2**64 - 1)),
-        *(laid(hour_of(*given), chance.randint(0, 2), chance.randint(-1, 1)) for given in some),
+        *(hour.laid(0, hour.size() + 1) for hour in hours),
+        *(
+            hour.laid(at, at + room)
+            for hour in (SHARED, REFUSED)
+            for at in (0, 3)
+            for room in (0, 5, hour.size() - 1, hour.size(), hour.size() + 1)
+        ),
+        *(hour.laid(at, 20) for hour in (SHORT, REFUSED) for at in (19, 21, 2**32, 2**64 - 1)),
+        *(hour.laid(2, hour.size() + chance.randint(1, 3)) for hour in some),
     ]
 
 
+ANY = Figure(up_to(2**64 - 1), wide)
+
 ROUTINES = (
     ValueRoutine(
-        "put_hour",
-        (Figure(ANY, wide), Figure(ANY, wide), Lent(BYTES), Bytes(), InMemory()),
-        answer_hour,
-        hour_cases,
+        "put_hour", (InMemory(), ANY, ANY, Lent(BYTES), Bytes()), answer_hour, hour_cases
     ),
 )

@@ -17,10 +17,11 @@ from rowcases import (
 )
 from valuecases import InMemory, Lent, ValueRoutine
 
+# Yesterday's 11 and today's 24.
 HOURS = 35
 
 
-def answer_check(row, day):
+def answer_check(day, row):
     meter_at(day.counts, day.numbers, row)
     return [], []
 
@@ -29,16 +30,16 @@ def check_cases(chance):
     return row_cases(METER, chance)
 
 
-def answer_figures(row, day):
+def answer_figures(day, row):
     shipper, p, m, receipt, delivery = meter_figures(day.counts, day.numbers, row)
     return [shipper, p, m, *receipt, *delivery], []
 
 
-def answer_yesterday(row, day):
+def answer_yesterday(day, row):
     return meter_yesterday(day.counts, day.numbers, row), []
 
 
-def answer_hours(row, day):
+def answer_hours(day, row):
     delivered, received = meter_hours(day.counts, day.numbers, row)
     return [*delivered, *received], []
 
@@ -53,7 +54,7 @@ def meter_cases(chance):
     ]
 
 
-def answer_delivered(row, room, day):
+def answer_delivered(day, row, room):
     return [], [meter_delivered(day.counts, day.numbers, row, room)]
 
 
@@ -62,20 +63,20 @@ def delivered_cases(chance):
     metered = day_of(METERED)
     rooms = (0, HOURS - 1, HOURS, HOURS + 1)
     return [
-        *([row, HOURS + chance.randint(0, 1), day] for row, day in meter_cases(chance)),
-        *([row, room, metered] for room in rooms for row in (1, 2)),
-        [63, HOURS, full_day()],
+        *([day, row, HOURS + chance.randint(0, 1)] for day, row in meter_cases(chance)),
+        *([metered, row, room] for room in rooms for row in (1, 2)),
+        [full_day(), 63, HOURS],
     ]
 
 
 ROW = Figure(WORD)
 
 ROUTINES = (
-    ValueRoutine("check_meter", (ROW, InMemory()), answer_check, check_cases),
-    ValueRoutine("meter_figures", (ROW, InMemory()), answer_figures, meter_cases),
-    ValueRoutine("meter_yesterday", (ROW, InMemory()), answer_yesterday, meter_cases),
-    ValueRoutine("meter_hours", (ROW, InMemory()), answer_hours, meter_cases),
+    ValueRoutine("check_meter", (InMemory(), ROW), answer_check, check_cases),
+    ValueRoutine("meter_figures", (InMemory(), ROW), answer_figures, meter_cases),
+    ValueRoutine("meter_yesterday", (InMemory(), ROW), answer_yesterday, meter_cases),
+    ValueRoutine("meter_hours", (InMemory(), ROW), answer_hours, meter_cases),
     ValueRoutine(
-        "meter_delivered", (ROW, Lent(NUMBERS), InMemory()), answer_delivered, delivered_cases
+        "meter_delivered", (InMemory(), ROW, Lent(NUMBERS)), answer_delivered, delivered_cases
     ),
 )

@@ -22,13 +22,13 @@ def asked_rows(tag):
     """Each row, and those past the last."""
     tables = tables_for(tag)
     rows = len(tables[tag])
-    return [[row, day_of(tables)] for row in (*range(rows + 2), WORD[-1])]
+    return [[day_of(tables), row] for row in (*range(rows + 2), WORD[-1])]
 
 
 def faulty_rows(tag):
     """A row's number at its bounds and beyond; the last of these faults with another row asked."""
     days = [day_of(edited(tables_for(tag), edit)) for edit in row_edits(tag, 1)]
-    return [*([1, day] for day in days), [0, days[-1]]]
+    return [*([day, 1] for day in days), [days[-1], 0]]
 
 
 def miscounted_rows(tag):
@@ -36,9 +36,9 @@ def miscounted_rows(tag):
     tables = tables_for(tag)
     too_many = padded(tables, tag, FORMS[tag].count[-1] + 1)
     return [
-        *([0, day] for day in miscounted(day_of(tables))),
-        *([WORD[-1], day] for day in miscounted(day_of(tables))[:2]),
-        [1, too_many._replace(numbers=[*too_many.numbers, 0])],
+        *([day, 0] for day in miscounted(day_of(tables))),
+        *([day, WORD[-1]] for day in miscounted(day_of(tables))[:2]),
+        [too_many._replace(numbers=[*too_many.numbers, 0]), 1],
     ]
 
 
@@ -51,14 +51,14 @@ def limit_rows(tag):
     most = FORMS[tag].count[-1]
     own = [(1, most), (most - 1, most), (most, most), (1, most + 1)]
     return [
-        *([1, day] for day in limits(zeros)),
-        *([row, padded(sound, tag, rows)] for row, rows in own),
+        *([day, 1] for day in limits(zeros)),
+        *([padded(sound, tag, rows), row] for row, rows in own),
     ]
 
 
 def some_rows(chance, tag, count):
     days = [some_edited(chance, tag) for _ in range(count)]
-    return [[chance.randint(0, day.counts[TABLES.index(tag)]), day] for day in days]
+    return [[day, chance.randint(0, day.counts[TABLES.index(tag)])] for day in days]
 
 
 def row_cases(tag, chance):
@@ -71,7 +71,7 @@ def row_cases(tag, chance):
     ]
 
 
-def answer_number(tag, row, place, day):
+def answer_number(day, tag, row, place):
     return [number_at(day.counts, day.numbers, tag, row, place)], []
 
 
@@ -81,20 +81,20 @@ def number_cases(chance):
     several, metered = day_of(SEVERAL), day_of(METERED)
     asked = [(0, 0), (1, 0), (1, 2), (2, 1), (3, 5), (WORD[-1], 0), (0, WORD[-1])]
     greatest = several._replace(counts=Counts(*[WORD[-1]] * 4))
+    counted = [Counts(*(chance.randint(0, 2) for _ in range(4))) for _ in range(4)]
     return [
-        *([tag, row, place, several] for tag in TABLES for row, place in asked),
-        *([METER, row, place, metered] for row, place in ((0, 0), (0, 67), (1, 3), (1, 67), (1, 68))),
-        *([tag, WORD[-1], WORD[-1], greatest] for tag in TABLES),
+        *([several, tag, *place] for tag in TABLES for place in asked),
+        *([metered, METER, *place] for place in ((0, 0), (0, 67), (1, 3), (1, 67), (1, 68))),
+        *([greatest, tag, WORD[-1], WORD[-1]] for tag in TABLES),
         *(
-            [tag, *(chance.randint(0, 3) for _ in range(2)), several._replace(counts=counts)]
-            for tag in TABLES
-            for counts in [Counts(*(chance.randint(0, 2) for _ in range(4)))]
+            [several._replace(counts=counts), tag, chance.randint(0, 3), chance.randint(0, 3)]
+            for tag, counts in zip(TABLES, counted)
         ),
-        [SHIPPER, 0, 1, day_of(edited(SEVERAL, row_edits(SHIPPER, 0)[-1]))],
+        [day_of(edited(SEVERAL, row_edits(SHIPPER, 0)[-1])), SHIPPER, 0, 5],
     ]
 
 
-def answer_check(tag, row, day):
+def answer_check(day, tag, row):
     row_at(day.counts, day.numbers, tag, row)
     return [], []
 
@@ -102,9 +102,9 @@ def answer_check(tag, row, day):
 def check_cases(chance):
     """The cases of every table, with all faults of its rows."""
     return [
-        [tag, *case]
+        [day, tag, row]
         for tag in TABLES
-        for case in (
+        for day, row in (
             *asked_rows(tag),
             *limit_rows(tag),
             *faulty_rows(tag),
@@ -114,7 +114,7 @@ def check_cases(chance):
     ]
 
 
-def answer_shipper(row, day):
+def answer_shipper(day, row):
     return [shipper_at(day.counts, day.numbers, row)], []
 
 
@@ -122,7 +122,7 @@ def shipper_cases(chance):
     return row_cases(SHIPPER, chance)
 
 
-def answer_point(row, day):
+def answer_point(day, row):
     return [*point_at(day.counts, day.numbers, row)], []
 
 
@@ -133,8 +133,8 @@ def point_cases(chance):
 TAG, ROW, PLACE = Figure(range(SHIPPER, METER + 1)), Figure(WORD), Figure(WORD)
 
 ROUTINES = (
-    ValueRoutine("number_at", (TAG, ROW, PLACE, InMemory()), answer_number, number_cases),
-    ValueRoutine("check_row", (TAG, ROW, InMemory()), answer_check, check_cases),
-    ValueRoutine("shipper_at", (ROW, InMemory()), answer_shipper, shipper_cases),
-    ValueRoutine("point_at", (ROW, InMemory()), answer_point, point_cases),
+    ValueRoutine("number_at", (InMemory(), TAG, ROW, PLACE), answer_number, number_cases),
+    ValueRoutine("check_row", (InMemory(), TAG, ROW), answer_check, check_cases),
+    ValueRoutine("shipper_at", (InMemory(), ROW), answer_shipper, shipper_cases),
+    ValueRoutine("point_at", (InMemory(), ROW), answer_point, point_cases),
 )

@@ -5,15 +5,10 @@ use crate::answers::put_check;
 use crate::answers::put_figures;
 use crate::answers::put_refusal;
 use crate::answers::put_rows;
-use crate::case::past;
 use crate::case::smaller;
 use crate::case::wide;
 use crate::case::word;
-use crate::day::counts_of;
-use crate::day::day_of;
-use crate::day::length_of;
-use crate::day::numbers_of;
-use dayshares::Day;
+use dayformat::Counts;
 use dayshares::Shares;
 use dayvalues::Listed;
 use dayvalues::ShipperColumn;
@@ -29,30 +24,19 @@ fn column_of(place: u32) -> ShipperColumn {
     }
 }
 
-pub fn answer_check(case: &[u8]) {
-    let day = past(case, 3);
-    let numbers = numbers_of(day);
-    let check = dayvalues::check_column(
-        counts_of(day),
-        &numbers[0..length_of(day)],
-        column_of(word(case, 0)),
-        wide(word(case, 1), word(case, 2)),
-    );
+pub fn answer_check(counts: Counts, numbers: &[usize], given: &[u8]) {
+    let column = column_of(word(given, 0));
+    let room = wide(word(given, 1), word(given, 2));
+    let check = dayvalues::check_column(counts, numbers, column, room);
     io::write_all(1, b"check_column");
     put_check(check);
 }
 
-pub fn answer_column(case: &[u8]) {
+pub fn answer_column(counts: Counts, numbers: &[usize], given: &[u8]) {
     let mut lent = [LENT_ROW; MOST_ROWS];
-    let room = smaller(word(case, 1) as usize, MOST_ROWS);
-    let day = past(case, 2);
-    let numbers = numbers_of(day);
-    let listed = dayvalues::shipper_column(
-        counts_of(day),
-        &numbers[0..length_of(day)],
-        column_of(word(case, 0)),
-        &mut lent[0..room],
-    );
+    let column = column_of(word(given, 0));
+    let room = smaller(word(given, 1) as usize, MOST_ROWS);
+    let listed = dayvalues::shipper_column(counts, numbers, column, &mut lent[0..room]);
     io::write_all(1, b"shipper_column");
     match listed {
         Listed::Refused(refusal) => put_refusal(refusal),
@@ -63,38 +47,28 @@ pub fn answer_column(case: &[u8]) {
     put_rows(&lent, room);
 }
 
-pub fn answer_shares(case: &[u8]) {
+pub fn answer_shares(day: dayformat::Day, numbers: &[usize], given: &[u8]) {
     let mut firm = [LENT_ROW; MOST_ROWS];
     let mut auction = [LENT_ROW; MOST_ROWS];
     let mut lower_tier = [LENT_ROW; MOST_ROWS];
-    let firm_room = smaller(word(case, 0) as usize, MOST_ROWS);
-    let auction_room = smaller(word(case, 1) as usize, MOST_ROWS);
-    let lower_tier_room = smaller(word(case, 2) as usize, MOST_ROWS);
-    let shared = share_numbers(
-        past(case, 3),
+    let firm_room = smaller(word(given, 0) as usize, MOST_ROWS);
+    let auction_room = smaller(word(given, 1) as usize, MOST_ROWS);
+    let lower_tier_room = smaller(word(given, 2) as usize, MOST_ROWS);
+    let shared = numbershares::share_numbers(
+        day,
+        numbers,
         &mut firm[0..firm_room],
         &mut auction[0..auction_room],
         &mut lower_tier[0..lower_tier_room],
     );
     io::write_all(1, b"share_numbers");
     match shared {
-        Day::Refused(refusal) => put_refusal(refusal),
-        Day::Shared(shares) => put_shares(shares),
+        dayshares::Day::Refused(refusal) => put_refusal(refusal),
+        dayshares::Day::Shared(shares) => put_shares(shares),
     }
     put_rows(&firm, firm_room);
     put_rows(&auction, auction_room);
     put_rows(&lower_tier, lower_tier_room);
-}
-
-fn share_numbers(day: &[u8], firm: &mut [u32], auction: &mut [u32], lower_tier: &mut [u32]) -> Day {
-    let numbers = numbers_of(day);
-    numbershares::share_numbers(
-        day_of(day),
-        &numbers[0..length_of(day)],
-        firm,
-        auction,
-        lower_tier,
-    )
 }
 
 fn put_shares(shares: Shares) {

@@ -12,7 +12,7 @@ use units::Gigajoules;
 ghost use Prim.Native.Nat.{_≤_};
 
 // No day has more numbers: one more than a full one.
-pub const MOST_NUMBERS: usize = 6_881;
+const MOST_NUMBERS: usize = 6_881;
 
 pub fn day_of(case: &[u8]) -> Day {
     Day {
@@ -21,16 +21,12 @@ pub fn day_of(case: &[u8]) -> Day {
             free_flow: Gigajoules(word(case, 1)),
             compressor: Gigajoules(word(case, 2)),
         },
-        counts: counts_of(case),
-    }
-}
-
-pub fn counts_of(case: &[u8]) -> Counts {
-    Counts {
-        shippers: word(case, 3),
-        points: word(case, 4),
-        entries: word(case, 5),
-        meters: word(case, 6),
+        counts: Counts {
+            shippers: word(case, 3),
+            points: word(case, 4),
+            entries: word(case, 5),
+            meters: word(case, 6),
+        },
     }
 }
 
@@ -50,4 +46,9 @@ pub fn numbers_of(case: &[u8]) -> [usize; MOST_NUMBERS] {
         numbers[place] = wide(word(higher, place), word(lower, place));
     }
     numbers
+}
+
+// What follows the day.
+pub fn past_day(case: &[u8]) -> &[u8] {
+    past_bytes(past_bytes(past(case, 8)))
 }

@@ -10,6 +10,11 @@ mod texts;
 use case::past;
 use case::smaller;
 use case::word;
+use day::day_of;
+use day::length_of;
+use day::numbers_of;
+use day::past_day;
+use dayformat::Day;
 
 // No case has more words: what a large buffer holds.
 const MOST_WORDS: usize = 16_384;
@@ -40,25 +45,43 @@ fn answer_read(body: &mut [u8]) {
     answer(body);
 }
 
-// A case's first word is its routine.
+// A case's first word is its routine; of most routines a day is the next argument.
 fn answer(case: &[u8]) {
+    let routine = word(case, 0);
     let given = past(case, 1);
-    match word(case, 0) {
-        1 => rows::answer_number(given),
-        2 => rows::answer_row(given),
-        3 => rows::answer_shipper(given),
-        4 => rows::answer_point(given),
-        5 => columns::answer_check(given),
-        6 => columns::answer_column(given),
-        7 => columns::answer_shares(given),
-        8 => meters::answer_check(given),
-        9 => meters::answer_figures(given),
-        10 => meters::answer_yesterday(given),
-        11 => meters::answer_hours(given),
-        12 => meters::answer_delivered(given),
-        13 => texts::answer_hour(given),
+    match routine {
         14 => texts::answer_decimal(given),
-        _ => {}
+        _ => answer_day(routine, given),
     }
     io::write_all(1, b"\n");
+}
+
+fn answer_day(routine: u32, case: &[u8]) {
+    let numbers = numbers_of(case);
+    answer_numbers(
+        routine,
+        day_of(case),
+        &numbers[0..length_of(case)],
+        past_day(case),
+    );
+}
+
+fn answer_numbers(routine: u32, day: Day, numbers: &[usize], given: &[u8]) {
+    let counts = day.counts;
+    match routine {
+        1 => rows::answer_number(counts, numbers, given),
+        2 => rows::answer_row(counts, numbers, given),
+        3 => rows::answer_shipper(counts, numbers, given),
+        4 => rows::answer_point(counts, numbers, given),
+        5 => columns::answer_check(counts, numbers, given),
+        6 => columns::answer_column(counts, numbers, given),
+        7 => columns::answer_shares(day, numbers, given),
+        8 => meters::answer_check(counts, numbers, given),
+        9 => meters::answer_figures(counts, numbers, given),
+        10 => meters::answer_yesterday(counts, numbers, given),
+        11 => meters::answer_hours(counts, numbers, given),
+        12 => meters::answer_delivered(counts, numbers, given),
+        13 => texts::answer_hour(counts, numbers, given),
+        _ => {}
+    }
 }

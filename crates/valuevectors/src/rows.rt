@@ -2,11 +2,8 @@
 use crate::answers::put_check;
 use crate::answers::put_figures;
 use crate::answers::put_refusal;
-use crate::case::past;
 use crate::case::word;
-use crate::day::counts_of;
-use crate::day::length_of;
-use crate::day::numbers_of;
+use dayformat::Counts;
 use dayformat::Tag;
 use dayvalues::PointRow;
 use dayvalues::ShipperRow;
@@ -21,37 +18,22 @@ fn tag_of(tag: u32) -> Tag {
     }
 }
 
-pub fn answer_number(case: &[u8]) {
-    let day = past(case, 3);
-    let numbers = numbers_of(day);
-    let number = dayvalues::number_at(
-        counts_of(day),
-        &numbers[0..length_of(day)],
-        tag_of(word(case, 0)),
-        word(case, 1),
-        word(case, 2),
-    );
+pub fn answer_number(counts: Counts, numbers: &[usize], given: &[u8]) {
+    let tag = tag_of(word(given, 0));
+    let number = dayvalues::number_at(counts, numbers, tag, word(given, 1), word(given, 2));
     io::write_all(1, b"number_at");
     put_figures(&[0, 0, number as u64]);
 }
 
-pub fn answer_row(case: &[u8]) {
-    let day = past(case, 2);
-    let numbers = numbers_of(day);
-    let check = dayvalues::check_row(
-        counts_of(day),
-        &numbers[0..length_of(day)],
-        tag_of(word(case, 0)),
-        word(case, 1),
-    );
+pub fn answer_row(counts: Counts, numbers: &[usize], given: &[u8]) {
+    let tag = tag_of(word(given, 0));
+    let check = dayvalues::check_row(counts, numbers, tag, word(given, 1));
     io::write_all(1, b"check_row");
     put_check(check);
 }
 
-pub fn answer_shipper(case: &[u8]) {
-    let day = past(case, 1);
-    let numbers = numbers_of(day);
-    let row = dayvalues::shipper_at(counts_of(day), &numbers[0..length_of(day)], word(case, 0));
+pub fn answer_shipper(counts: Counts, numbers: &[usize], given: &[u8]) {
+    let row = dayvalues::shipper_at(counts, numbers, word(given, 0));
     io::write_all(1, b"shipper_at");
     match row {
         ShipperRow::Refused(refusal) => put_refusal(refusal),
@@ -61,10 +43,8 @@ pub fn answer_shipper(case: &[u8]) {
     }
 }
 
-pub fn answer_point(case: &[u8]) {
-    let day = past(case, 1);
-    let numbers = numbers_of(day);
-    let row = dayvalues::point_at(counts_of(day), &numbers[0..length_of(day)], word(case, 0));
+pub fn answer_point(counts: Counts, numbers: &[usize], given: &[u8]) {
+    let row = dayvalues::point_at(counts, numbers, word(given, 0));
     io::write_all(1, b"point_at");
     match row {
         PointRow::Refused(refusal) => put_refusal(refusal),
