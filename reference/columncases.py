@@ -47,13 +47,12 @@ def faulty_columns():
 
 
 def limit_columns():
-    """63, 64 and 65 shippers, and the other tables' most rows and one more; with room for every
-    row, and for all but one."""
+    """63, 64 and 65 shippers, with room for every row and for all but one; and the other tables'
+    most rows, and one more."""
     days = [padded(SHIPPERS, SHIPPER, 63), *limits(SHIPPERS)]
     return [
-        [day, index % 5 + 1, day.counts.shippers - short]
-        for index, day in enumerate(days)
-        for short in (0, 1)
+        *([day, 1, day.counts.shippers - 1] for day in days[:3]),
+        *([day, index % 5 + 1, day.counts.shippers] for index, day in enumerate(days)),
     ]
 
 
@@ -63,7 +62,8 @@ def column_cases(chance):
     return [
         *every_column(several),
         *every_column(make_day())[:2],
-        *([day, 5, room] for day in (several, beyond) for room in (0, 2, 3, 4, MOST_ROWS)),
+        *([several, 5, room] for room in (0, 2, 4, MOST_ROWS)),
+        [beyond, 5, 2],
         *faulty_columns(),
         *limit_columns(),
         *([day, index % 5 + 1, 3] for index, day in enumerate(miscounted(several))),

@@ -108,7 +108,7 @@ def hour_cases(chance):
             hour.laid(at, at + room)
             for hour in (SHARED, REFUSED)
             for at in (0, 3)
-            for room in (0, 5, hour.size() - 1, hour.size(), hour.size() + 1)
+            for room in (0, hour.size() - 1, hour.size(), hour.size() + 1)
         ),
         *(hour.laid(at, 20) for hour in (SHORT, REFUSED) for at in (19, 21, 2**32, 2**64 - 1)),
         *(hour.laid(2, hour.size() + chance.randint(1, 3)) for hour in some),

@@ -2,10 +2,11 @@
 
 from cases import WORD, Figure
 from dayfile import day_of
-from dayformat import METER
+from dayformat import FORMS, METER, POINT, SHIPPER
 from daymeters import meter_at, meter_delivered, meter_figures, meter_hours, meter_yesterday
 from days import full_day
 from filecases import NUMBERS
+from numberfaults import padded
 from rowcases import (
     METERED,
     asked_rows,
@@ -45,11 +46,14 @@ def answer_hours(day, row):
 
 
 def meter_cases(chance):
-    """Accepted and refused: each row, and some of what the check is tried on."""
+    """Accepted and refused: each row, and some of what the check is tried on; and sound rows beside
+    a shipper and a point too many."""
+    too_many = [padded(METERED, tag, FORMS[tag].count[-1] + 1) for tag in (SHIPPER, POINT)]
     return [
         *asked_rows(METER),
-        *limit_rows(METER)[-4:],
-        *chance.sample([*faulty_rows(METER), *miscounted_rows(METER)], 6),
+        *limit_rows(METER),
+        *([day, 1] for day in too_many),
+        *chance.sample([*faulty_rows(METER), *miscounted_rows(METER)], 4),
         *some_rows(chance, METER, 3),
     ]
 

@@ -79,7 +79,7 @@ def number_cases(chance):
     """Numbers of each table, those past a row's end and past the list's; and counts by chance, that
     say nothing of the list's length."""
     several, metered = day_of(SEVERAL), day_of(METERED)
-    asked = [(0, 0), (1, 0), (1, 2), (2, 1), (3, 5), (WORD[-1], 0), (0, WORD[-1])]
+    asked = [(0, 0), (1, 2), (2, 1), (3, 5), (WORD[-1], 0), (0, WORD[-1])]
     greatest = several._replace(counts=Counts(*[WORD[-1]] * 4))
     counted = [Counts(*(chance.randint(0, 2) for _ in range(4))) for _ in range(4)]
     return [
