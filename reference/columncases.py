@@ -15,7 +15,7 @@ from valuecases import InMemory, Lent, ValueRoutine
 
 GREATEST = GIGAJOULES[-1]
 
-SHIPPERS = {**SEVERAL, POINT: [], ENTRY: [], METER: []}
+SHIPPERS_ALONE = {**SEVERAL, POINT: [], ENTRY: [], METER: []}
 
 
 def answer_check(day, place, room):
@@ -49,7 +49,7 @@ def faulty_columns():
 def limit_columns():
     """63, 64 and 65 shippers, with room for every row and for all but one; and the other tables'
     most rows, and one more."""
-    days = [padded(SHIPPERS, SHIPPER, 63), *limits(SHIPPERS)]
+    days = [padded(SHIPPERS_ALONE, SHIPPER, 63), *limits(SHIPPERS_ALONE)]
     return [
         *([day, 1, day.counts.shippers - 1] for day in days[:3]),
         *([day, index % 5 + 1, day.counts.shippers] for index, day in enumerate(days)),
@@ -116,7 +116,7 @@ def other_capacities():
     bound in each column, of one with a schedule and no MDQ, and of one with a shipper too many."""
     columns = [edited(SEVERAL, Edit(SHIPPER, 1, place, GREATEST + 1)) for place in SHIPPER_COLUMNS]
     no_mdq = edited(SEVERAL, Edit(SHIPPER, 1, 1, 0))
-    too_many = tables_of(padded(SHIPPERS, SHIPPER, 65))
+    too_many = tables_of(padded(SHIPPERS_ALONE, SHIPPER, 65))
     pairs = [(GREATEST, GREATEST), (GREATEST + 1, 0), (0, GREATEST + 1), (WORD[-1], WORD[-1])]
     return [
         *(with_capacities(tables, *pair) for tables in (SEVERAL, columns[0]) for pair in pairs),
@@ -168,7 +168,7 @@ def shares_cases(chance):
         *([several, *some] for some in rooms),
         [no_mdq, 2, 2, 2],
         *([day, 3, 3, 3] for day in (*other_capacities(), *faulty_shares())),
-        *([day, 64, 64, 64] for day in limits(SHIPPERS)),
+        *([day, 64, 64, 64] for day in limits(SHIPPERS_ALONE)),
     ]
 
 

@@ -100,8 +100,8 @@ def other_days():
 
 def hour_cases(chance):
     hours = [SHORT, *FEW_AND_MANY, *BOUNDS, *other_parts(), *other_days()]
-    rows = (1, 2, 2, 2, 3, 3, 4, 5, 8, 20)
-    some = [hour_of(capacity, *lists) for capacity, _, *lists in (some_hour(chance, n) for n in rows)]
+    given = [some_hour(chance, rows) for rows in (1, 2, 2, 2, 3, 3, 4, 5, 8, 20)]
+    some = [hour_of(capacity, *lists) for capacity, _, *lists in given]
     return [
         *(hour.laid(0, hour.size() + 1) for hour in hours),
         *(

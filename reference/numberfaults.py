@@ -1,4 +1,4 @@
-"""Faults of a day in memory: its counts, the length of its list, and numbers beyond their bounds."""
+"""Faults of a day in memory: its counts, its list's length, and numbers beyond their bounds."""
 
 from cases import put
 from daycases import other_numbers

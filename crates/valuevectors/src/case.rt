@@ -3,7 +3,7 @@ ghost use Prim.Native.Nat.{_≤_};
 
 // The smaller of a count and the most that there may be.
 pub fn smaller(count: usize, most: usize) -> usize
-    ensures { λ r. ⌜ (r ≤ count) × (r ≤ most) ⌝ }
+    ensures { λ r. ⌜ r ≤ most ⌝ }
 {
     if count < most {
         return count;

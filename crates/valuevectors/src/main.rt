@@ -1,4 +1,4 @@
-// The routines on a day in memory, run on cases of the second program: each case is read from standard input, and its answer printed on a line.
+// The routines on a day in memory, run on cases of the second program: each case is read from standard input, its answer printed on a line.
 mod answers;
 mod case;
 mod columns;
