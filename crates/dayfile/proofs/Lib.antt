@@ -1,6 +1,8 @@
 pub mod Answers
+pub mod Decided
 pub mod Determined
 pub mod Parts
+pub mod Reaching
 pub mod Rooms
 pub mod Stages
 pub mod Steps

@@ -8,6 +8,7 @@ use lib.Seq.{sets}
 use Rattle.units.specs.declared.refusal.Check.{Check}
 use Rattle.units.specs.declared.refusal.Check.the-variants as Check
 use Rattle.units.specs.Refusals.{accepted-or, _then_, keep}
+use Rattle.units.specs.Verdict.{Verdict, accepting, refusing}
 use Rattle.dayformat.specs.declared.day.Day.{Day}
 use Rattle.dayformat.specs.Layout.{no-rows, numbers-in}
 use Rattle.dayfile.specs.declared.reader.Reading.{Reading}
@@ -22,23 +23,16 @@ check file room = file-check (walked file) then keep (leb (numbers-in (walked fi
 abbrev pub day-of : List ℕ → Day
 day-of file = record { head = head-of file; counts = walked file .counts }
 
--- 01's number (0 where read), its place, and the head's and the counts' figures (zero where refused)
-abbrev pub number : Reading → ℕ
-number (Refused refusal) = refusal .number
-number (Read day) = 0
-
-abbrev pub place : Reading → ℕ
-place (Refused refusal) = refusal .place
-place (Read day) = 0
-
-abbrev pub figures : Reading → Day
-figures (Refused refusal) =
-    record { head = record { day = 0; «free_flow» = record { 0 = 0 }; compressor = record { 0 = 0 } }; counts = no-rows }
-figures (Read day) = day
-
 abbrev pub answer : Check → Day → Reading
 answer (Check.Refused refusal) day = Refused refusal
 answer Check.Accepted day = Read day
+
+-- 01's number, place and figures of each case: the head's and the counts'
+abbrev pub verdict : Reading → Verdict Day
+verdict (Read day) = accepting day
+verdict (Refused refusal) =
+    refusing refusal
+    (record { head = record { day = 0; «free_flow» = record { 0 = 0 }; compressor = record { 0 = 0 } }; counts = no-rows })
 
 -- the answer, and the lent block before and after
 pub record Answered (file lent after : List ℕ) (reading : Reading) : Type 0 where

@@ -1,5 +1,6 @@
 pub mod BodyReading
 pub mod Breaking
+pub mod Decided
 pub mod Determined
 pub mod Ending
 pub mod Following

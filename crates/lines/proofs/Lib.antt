@@ -1,4 +1,5 @@
 pub mod Lining
 pub mod Answers
 pub mod Determined
+pub mod Decided
 pub mod Figures

@@ -8,25 +8,18 @@ use lib.Seq.{sets}
 use Rattle.units.specs.declared.refusal.Check.{Check}
 use Rattle.units.specs.declared.refusal.Check.the-variants as Check
 use Rattle.units.specs.Refusals.{accepted-or, _then_, keep}
+use Rattle.units.specs.Verdict.{Verdict, accepting, refusing}
 use Rattle.lines.specs.declared.Listing.{Listing}
 use Rattle.lines.specs.declared.Listing.the-variants.{Refused, Text}
-
--- 01's number (0 where there is a text), its place, and the size of the text (zero where refused)
-abbrev pub number : Listing → ℕ
-number (Refused refusal) = refusal .number
-number (Text many) = 0
-
-abbrev pub place : Listing → ℕ
-place (Refused refusal) = refusal .place
-place (Text many) = 0
-
-abbrev pub size : Listing → ℕ
-size (Refused refusal) = 0
-size (Text many) = many
 
 abbrev pub answer : Check → ℕ → Listing
 answer (Check.Refused refusal) many = Refused refusal
 answer Check.Accepted many = Text many
+
+-- 01's number, place and figure of each case: the size of the text
+abbrev pub verdict : Listing → Verdict ℕ
+verdict (Text many) = accepting many
+verdict (Refused refusal) = refusing refusal 0
 
 -- 7 exactly when a text that the tests before accept is longer than the room
 unfoldable pub check : Check → List ℕ → ℕ → Check

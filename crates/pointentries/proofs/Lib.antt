@@ -1,3 +1,4 @@
+pub mod Decided
 pub mod EntryKeys
 pub mod EntryLists
 pub mod EntryParts

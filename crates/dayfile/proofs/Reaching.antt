@@ -1,0 +1,87 @@
+-- How far a walk can come in a file of any length: a run has no more fields than there may be, so it stays within a full day's file.
+use mathlib.Core.Bool.{Bool, true, false, cond}
+use mathlib.Core.List.{List, [], _++_}
+use Prim.Native.Nat.{ℕ, _+_, _*_, _≤_}
+use native.Mathlib.Nat.{mul-le-mul-right}
+use native.Mathlib.Omega.{arith}
+use lib.Dec.{eqb}
+use Rattle.columns.specs.Column.{col, listed}
+use Rattle.columns.proofs.Firsts.{first-le}
+use Rattle.bigendian.specs.Row.{size}
+use Rattle.dayformat.specs.declared.form.Tag.{Tag}
+use Rattle.dayformat.specs.declared.form.Tag.the-variants.{Head, Shipper, Point, Entry, Meter}
+use Rattle.dayformat.specs.Format.{column-in, field-size, form}
+use Rattle.dayformat.specs.Layout.{numbers-in}
+use Rattle.dayruns.specs.declared.walk.Walk.{Walk}
+use Rattle.dayruns.specs.Run.{rows-of, stops}
+use Rattle.dayruns.specs.Walk.{walk-after}
+use Rattle.dayruns.proofs.Decided.{Known, field-known, run-known, ended-has}
+use Rattle.dayfile.specs.File.{Tables, fields-from, head-fields, head-fault, headed, table-run, tabled, tables, walked, most-numbers}
+use Rattle.dayfile.proofs.Rooms.{Few, few-none, few-with, few-fit}
+
+-- a walk that has come no further than a byte
+pub record Reached (most : ℕ) (walk : Walk) : Type 0 where
+  pub fault : Known (walk .fault)
+  pub place : walk .place ≤ most
+  pub few : Few (walk .counts)
+
+headed-reached : (file : List ℕ) → Reached (field-size Head) (headed file)
+unfolding headed
+headed-reached file =
+    record {
+      fault = field-known (head-fields file) (λ rows. col (rows-of (head-fields file) rows)) 0;
+      place = by (eqb (head-fault file) 0);
+      few = few-none;
+    }
+  where
+    by : (sound : Bool) → cond sound (field-size Head) 0 ≤ field-size Head
+    by true = omega arith
+    by false = omega arith
+
+-- the run of a tag
+tabled-reached : (file : List ℕ) (tag : Tag) (T : Tables) {most : ℕ} → Reached most (T .walk)
+    → Reached (most + form tag .most * field-size tag) (tabled file tag T .walk)
+unfolding tabled
+tabled-reached file tag T {most} R = by (eqb (T .walk .fault) 0)
+  where
+    read : ℕ → ℕ → ℕ
+    read many = col (T .numbers ++ rows-of (fields-from file (T .walk) tag) many)
+
+    few-rows : table-run file tag T .rows ≤ form tag .most
+    few-rows = first-le (stops (fields-from file (T .walk) tag) read) (form tag .most)
+
+    more : Tables
+    more =
+        record {
+          walk = walk-after (T .walk) tag (table-run file tag T);
+          numbers = T .numbers ++ rows-of (fields-from file (T .walk) tag) (table-run file tag T .rows);
+        }
+
+    by : (sound : Bool) → Reached (most + form tag .most * field-size tag) (cond sound more T .walk)
+    by true =
+        record {
+          fault = run-known (fields-from file (T .walk) tag) read;
+          place = omega (arith, R .place, mul-le-mul-right (field-size tag) few-rows);
+          few = few-with tag (T .walk .counts) (table-run file tag T .rows) (R .few) few-rows;
+        }
+    by false = record { fault = R .fault; place = omega (arith, R .place); few = R .few }
+
+-- a head, 64 shippers, 32 points, 512 entries and 64 meters
+abbrev pub most-file : ℕ
+most-file = 25_551
+
+tables-reached : (file : List ℕ) → Reached most-file (tables file .walk)
+unfolding size listed column-in
+tables-reached file =
+    tabled-reached file Meter _
+    (tabled-reached file Entry _
+    (tabled-reached file Point _ (tabled-reached file Shipper (record { walk = headed file; numbers = [] }) (headed-reached file))))
+
+-- what follows the last field is told where it begins
+pub walked-reached : (file : List ℕ) → Reached most-file (walked file)
+walked-reached file =
+    let R = tables-reached file in
+    ended-has (Reached most-file) file (tables file .walk) R (λ number known. record { fault = known; place = R .place; few = R .few })
+
+pub numbers-most : (file : List ℕ) → numbers-in (walked file .counts) ≤ most-numbers
+numbers-most file = few-fit (walked file .counts) (walked-reached file .few)
