@@ -1,3 +1,5 @@
 pub mod Charging
+pub mod Decided
 pub mod HeadLine
 pub mod Rated
+pub mod Sizes

@@ -59,5 +59,5 @@ module _ (file : List ℕ) (are : AreBytes file) (none : walked file .fault ≡ 
       → Parted (walked file .counts) (col (tables file .numbers)) (entry-bytes (walked file .counts) file) side point
   file-parted side point h some =
       rw entries-are
-      (parted (day-of file) (tables file .numbers) (accepting (day-of file) (tables file .numbers) (day-accepted file are none))
+      (parted (day-of file) (tables file .numbers) (accepting (day-of file) (tables file .numbers) (day-accepted file none))
       side point h some)

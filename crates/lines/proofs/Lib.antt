@@ -3,3 +3,4 @@ pub mod Answers
 pub mod Determined
 pub mod Decided
 pub mod Figures
+pub mod Sizes

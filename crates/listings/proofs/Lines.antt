@@ -1,11 +1,11 @@
--- Texts laid one after another make a text.
+-- Texts laid one after another make a text, which is as long as they are together.
 use mathlib.Core.Path.{_≡_, refl, ap, _∙_}
 use mathlib.Core.List.{List}
-use Prim.Native.Nat.{ℕ, _+_, _≤_}
-use native.Mathlib.Nat.{le-antisymm}
+use Prim.Native.Nat.{ℕ, zero, suc, _+_, _*_, _≤_, _<_}
+use native.Mathlib.Nat.{le-antisymm, le-step, lt-suc-self}
 use native.Mathlib.Numerals.{add-one}
 use native.Mathlib.Omega.{arith}
-use lib.ListN.{length}
+use lib.ListN.{length, length-append}
 use lib.Seq.{length-sets}
 use Rattle.text.specs.Text.{Laid}
 use Rattle.text.proofs.Laying.{laid-both}
@@ -30,3 +30,10 @@ module _ (f : ℕ → List ℕ) {lent : List ℕ} {at : ℕ} where
 -- what is laid keeps the block's length
 pub laid-long : {bytes lent after : List ℕ} {at m : ℕ} → Laid bytes lent at m after → length after ≡ length lent
 laid-long {bytes} {lent} {at = at} L = ap length (L .lays) ∙ length-sets lent at bytes
+
+-- texts of at most so many bytes each
+pub texts-most : (f : ℕ → List ℕ) (most n : ℕ) → ((i : ℕ) → i < n → length (f i) ≤ most) → length (joined n f) ≤ n * most
+unfolding joined
+texts-most f most zero each = omega arith
+texts-most f most (suc n) each =
+    omega (arith, length-append (joined n f) (f n), texts-most f most n (λ i l. each i (le-step l)), each n (lt-suc-self n))

@@ -18,28 +18,20 @@ use Rattle.lines.specs.declared.Listing.the-variants as Listing
 use Rattle.lines.specs.Answer.{Listed}
 use Rattle.lines.specs.Answer as lines
 use Rattle.dayformat.specs.declared.day.Day.{Day}
-use Rattle.dayformat.specs.declared.form.Tag.the-variants.{Shipper, Point, Entry, Meter}
 use Rattle.dayformat.specs.Layout.{numbers-in}
 use Rattle.dayruns.specs.Walk.{file-check}
-use Rattle.dayruns.proofs.Ending.{faultless}
 use Rattle.dayfile.specs.declared.reader.Reading.{Reading}
 use Rattle.dayfile.specs.declared.reader.Reading.the-variants as Reading
 use Rattle.dayfile.specs.File.{tables, walked}
 use Rattle.dayfile.specs.Answer.{day-of}
 use Rattle.dayfile.specs.Answer as reader
+use Rattle.dayfile.proofs.Reaching.{numbers-most}
 use Rattle.daywriter.specs.Acceptance.{sound}
 use Rattle.roundtrip.proofs.FileAgain.{day-accepted}
 use Rattle.roundtrip.proofs.OnRoutines.{told, reads-day, lent-room, taken-numbers}
-use Rattle.listings.proofs.ReadSound.{read-sound}
-
--- every day that is read has room among so many numbers
-room-for : (file : List ℕ) → AreBytes file → walked file .fault ≡ 0 → numbers-in (walked file .counts) ≤ 6_880
-room-for file are none =
-    let S = read-sound file are none in
-    omega (arith, S .few Shipper, S .few Point, S .few Entry, S .few Meter)
 
 -- ---- a refusal
-module _ (file lent after : List ℕ) (are : AreBytes file) (room : length lent ≡ 6_880) (x : Refusal)
+module _ (file lent after : List ℕ) (room : length lent ≡ 6_880) (x : Refusal)
     (R : reader.Answered file lent after (Reading.Refused x)) where
   abbrev is-refused : Reading → Bool
   is-refused (Reading.Refused refusal) = true
@@ -57,7 +49,7 @@ module _ (file lent after : List ℕ) (are : AreBytes file) (room : length lent 
       by Accepted e =
           let accepted : reader.check file (length lent) ≡ Accepted =
           accepts-both e (accepts-kept 7 (le-leb (numbers-in (walked file .counts)) (length lent)
-          (omega (arith, room, room-for file are (faultless (walked file) e)))))
+          (omega (arith, room, numbers-most file))))
           in let same : Reading.Refused x ≡ Reading.Read (day-of file) = R .answers
           ∙ rw accepted in absurd (true≢false (ap is-refused same))
       by (Refused y) e =
@@ -74,7 +66,7 @@ module _ (file lent numbers : List ℕ) (day : Day) (are : AreBytes file) (R : r
   part-is = taken-numbers file lent numbers day R are
 
   pub part-sound : sound day (take (numbers-in (day .counts)) numbers) ≡ Accepted
-  part-sound = rw (part-is, told file lent numbers day R .1) (day-accepted file are (reads-day file lent numbers day R .accepted))
+  part-sound = rw (part-is, told file lent numbers day R .1) (day-accepted file (reads-day file lent numbers day R .accepted))
 
   -- whatever text a listing makes of a day and its numbers
   pub lists-day : (text : Day → List ℕ → List ℕ) {block after : List ℕ} {listing : Listing}

@@ -8,7 +8,6 @@ use lib.ListN.{length}
 use Rattle.units.specs.declared.refusal.Check.{Check}
 use Rattle.units.specs.Refusals.{_then_, keep}
 use Rattle.units.proofs.Checks.{accepts-both, accepts-kept}
-use Rattle.bigendian.specs.Number.{AreBytes}
 use Rattle.dayformat.specs.declared.day.Day.{Day}
 use Rattle.dayformat.specs.Layout.{numbers-in}
 use Rattle.dayformat.specs.Acceptance.{counts-check}
@@ -18,8 +17,8 @@ use Rattle.dayfile.specs.Answer.{day-of}
 use Rattle.daywriter.proofs.Accepting.{Sound, accepting}
 use Rattle.roundtrip.proofs.FileAgain.{day-accepted}
 
-pub read-sound : (file : List ℕ) → AreBytes file → walked file .fault ≡ 0 → Sound (day-of file) (tables file .numbers)
-read-sound file are none = accepting (day-of file) (tables file .numbers) (day-accepted file are none)
+pub read-sound : (file : List ℕ) → walked file .fault ≡ 0 → Sound (day-of file) (tables file .numbers)
+read-sound file none = accepting (day-of file) (tables file .numbers) (day-accepted file none)
 
 -- 9, then the counts' 3
 pub counted : (day : Day) (numbers : List ℕ) → Sound day numbers

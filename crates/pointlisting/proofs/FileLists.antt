@@ -63,7 +63,7 @@ module _ (file : List ℕ) (are : AreBytes file) (day : Day) (numbers : List ℕ
     pub readable : Readable day numbers (take split entries) (take (length entries - split) (drop split entries))
     readable =
         record {
-          sound = rw (← R .day-is, ← R .numbers-are) (day-accepted file are (R .accepted));
+          sound = rw (← R .day-is, ← R .numbers-are) (day-accepted file (R .accepted));
           receipt-is = ap (λ split. take split entries) split-is ∙ ap receipt-list entries-is;
           delivery-is =
               take-all (length entries - split) (drop split entries) (omega (arith, length-drop split entries))

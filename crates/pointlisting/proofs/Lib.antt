@@ -1,4 +1,5 @@
+pub mod Decided
+pub mod FileLists
 pub mod FirmMdqs
 pub mod PartRead
 pub mod Points
-pub mod FileLists

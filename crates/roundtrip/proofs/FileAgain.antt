@@ -44,7 +44,7 @@ pub head-numbers : (file : List ℕ) → decode (widths Head) (drop 3 file) ≡ 
 unfolding decode listed column-in
 head-numbers file = rw (drop-drop 4 3 file, drop-drop 4 7 file)
 
-module _ (file : List ℕ) (are : AreBytes file) (none : head-fault file ≡ 0) where
+module _ (file : List ℕ) (none : head-fault file ≡ 0) where
   first : place-of (head-fields file) 0 ≡ 0
   first = omega arith
 
@@ -65,7 +65,7 @@ module _ (file : List ℕ) (are : AreBytes file) (none : head-fault file ≡ 0) 
         few = few-none;
         long = omega arith;
         none = (refl, refl, refl, refl);
-        bytes = λ counts numbers a l.
+        bytes = λ are counts numbers a l.
             ap (λ many. take many file) head-place ∙ field-there file are Head 0 head-whole ∙ ap (field Head) (head-numbers file);
         pass = λ counts numbers a l. tt;
       }
@@ -84,7 +84,7 @@ module _ (file : List ℕ) (are : AreBytes file) (none : head-fault file ≡ 0) 
       .1 place l
 
 -- ---- the whole file
-module _ (file : List ℕ) (are : AreBytes file) (none : walked file .fault ≡ 0) where
+module _ (file : List ℕ) (none : walked file .fault ≡ 0) where
   abbrev T₁ : Tables
   T₁ = tabled file Shipper (record { walk = headed file; numbers = [] })
 
@@ -116,9 +116,9 @@ module _ (file : List ℕ) (are : AreBytes file) (none : walked file .fault ≡ 
       ++ fields counts f Meter)
       (λ counts f. (((Unit {0} × All-pass counts f Shipper) × All-pass counts f Point) × All-pass counts f Entry) × All-pass counts f Meter)
   reread =
-      reread-more file are Meter tt T₃
-      (reread-more file are Entry tt T₂
-      (reread-more file are Point tt T₁ (reread-more file are Shipper tt _ (reread-head file are sound₀) sound₁) sound₂)
+      reread-more file Meter tt T₃
+      (reread-more file Entry tt T₂
+      (reread-more file Point tt T₁ (reread-more file Shipper tt _ (reread-head file sound₀) sound₁) sound₂)
       sound₃)
       sound₄
 
@@ -135,12 +135,12 @@ module _ (file : List ℕ) (are : AreBytes file) (none : walked file .fault ≡ 
   agrees = rw ends (agree-same Meter (tables file .walk .counts))
 
   -- the bytes are those that the writer would write
-  pub file-again : file-of (day-of file) (col numbers) ≡ file
+  pub file-again : AreBytes file → file-of (day-of file) (col numbers) ≡ file
   unfolding file-of
-  file-again =
+  file-again are =
       sym
       (sym (take-all (tables file .walk .place) file (ended-none file (tables file .walk) none .1))
-      ∙ reread .bytes (walked file .counts) numbers agrees whole)
+      ∙ reread .bytes are (walked file .counts) numbers agrees whole)
 
   all-pass : (tag : Tag) → Table tag → All-pass (walked file .counts) (col numbers) tag
   all-pass =
@@ -166,15 +166,20 @@ module _ (file : List ℕ) (are : AreBytes file) (none : walked file .fault ≡ 
       by few Entry = few .entries
       by few Meter = few .meters
 
-  -- and the writer accepts the day
+  -- and the writer accepts the day, whatever the file is made of
   pub day-accepted : sound (day-of file) numbers ≡ Accepted
   unfolding column-in
   day-accepted =
       accepts (day-of file) numbers
       (record {
         long = reread .long ∙ ap (λ walk. numbers-in (walk .counts)) (sym ends);
-        free-flow = within-bounds (column-in (body Head) 1) _ (head-bounded file are sound₀ 1 (omega arith)) .1;
-        compressor = within-bounds (column-in (body Head) 2) _ (head-bounded file are sound₀ 2 (omega arith)) .1;
+        free-flow = within-bounds (column-in (body Head) 1) _ (head-bounded file sound₀ 1 (omega arith)) .1;
+        compressor = within-bounds (column-in (body Head) 2) _ (head-bounded file sound₀ 2 (omega arith)) .1;
         few = few-rows;
         passes = all-pass;
       })
+
+  -- its day number has 32 bits
+  pub day-number : day-of file .head .day ≤ 4_294_967_295
+  unfolding column-in
+  day-number = within-bounds (column-in (body Head) 0) _ (head-bounded file sound₀ 0 (omega arith)) .1

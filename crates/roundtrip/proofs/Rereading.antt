@@ -65,12 +65,12 @@ pub record Reread (file : List ℕ) (tag : Tag) (T : Tables) (written : Counts �
     pub few : Few (T .walk .counts)
     pub long : length (T .numbers) ≡ numbers-in (T .walk .counts)
     pub none : None-after tag (T .walk .counts)
-    pub bytes : (counts : Counts) (numbers : List ℕ) → Agree tag (T .walk .counts) counts → Leads (T .numbers) numbers
+    pub bytes : AreBytes file → (counts : Counts) (numbers : List ℕ) → Agree tag (T .walk .counts) counts → Leads (T .numbers) numbers
         → take (T .walk .place) file ≡ written counts (col numbers)
     pub pass : (counts : Counts) (numbers : List ℕ) → Agree tag (T .walk .counts) counts → Leads (T .numbers) numbers
         → Pass counts (col numbers)
 
-module _ (file : List ℕ) (are : AreBytes file) (tag : Tag) (t : Table tag) (T : Tables) {written : Counts → (ℕ → ℕ) → List ℕ}
+module _ (file : List ℕ) (tag : Tag) (t : Table tag) (T : Tables) {written : Counts → (ℕ → ℕ) → List ℕ}
     {Pass : Counts → (ℕ → ℕ) → Type 0} (R : Reread file (before tag) T written Pass) where
   abbrev F : Fields
   F = fields-from file (T .walk) tag
@@ -102,10 +102,10 @@ module _ (file : List ℕ) (are : AreBytes file) (tag : Tag) (t : Table tag) (T 
         (sym (row-stands (T .numbers) (row-of F) (form tag .columns) (length-row F) rows numbers leads row
         (row-start counts tag row) l from))
 
-    bytes-more : take (more .walk .place) file ≡ written counts (col numbers) ++ fields counts (col numbers) tag
-    bytes-more =
+    bytes-more : AreBytes file → take (more .walk .place) file ≡ written counts (col numbers) ++ fields counts (col numbers) tag
+    bytes-more are =
         take-add (T .walk .place) (rows * field-size tag) file
-        ∙ ap₂ (λ x y. x ++ y) (R .bytes counts numbers (agree-before (T .walk .counts) counts rows tag t a) front)
+        ∙ ap₂ (λ x y. x ++ y) (R .bytes are counts numbers (agree-before (T .walk .counts) counts rows tag t a) front)
         (run-bytes F _ are
         ∙ joined-same rows (λ row. field tag (row-of F row))
         (λ row. field tag (row-from (col numbers) tag (row-start counts tag row))) row-same
@@ -134,6 +134,6 @@ module _ (file : List ℕ) (are : AreBytes file) (tag : Tag) (t : Table tag) (T 
               (T .walk .counts) tag t rows (R .none),
         );
         none = none-with tag t (T .walk .counts) rows (R .none);
-        bytes = bytes-more;
+        bytes = λ are counts numbers a leads. bytes-more counts numbers a leads are;
         pass = pass-more;
       })

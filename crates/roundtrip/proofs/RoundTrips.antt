@@ -126,7 +126,7 @@ round-trips =
     record {
       file-again = λ file day numbers are R.
           rw (← R .day-is, ← R .numbers-are)
-          (record { accepted = again.day-accepted file are (R .accepted); file-is = again.file-again file are (R .accepted) });
+          (record { accepted = again.day-accepted file (R .accepted); file-is = again.file-again file (R .accepted) are });
       day-again = λ day numbers file u32 W.
           let S = accepting day numbers (W .accepted) in
           rw (← W .file-is, written day numbers S u32) (reads day numbers S u32);

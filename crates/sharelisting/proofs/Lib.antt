@@ -1,2 +1,4 @@
+pub mod Decided
 pub mod HeadLine
+pub mod Sizes
 pub mod TextIs

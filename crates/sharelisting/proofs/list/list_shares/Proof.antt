@@ -57,7 +57,7 @@ list-day-requires c κs =
 returns : tie.Need-returns
 returns c =
     let read = c .before .before .before .before in
-    lists-refusal _ _ _ (bytes-of read) (length-replicate {A = ℕ} 6_880 0) _
+    lists-refusal _ _ _ (length-replicate {A = ℕ} 6_880 0) _
     (rw (c .before .reading .given .1) at (read .read-day .ensures)) _ _
 
 same-length : tie.Need-same-length

@@ -1,0 +1,21 @@
+-- The tests decide an answer of `list_charges`: 3 for the rate, then the reader's, then the room for its text.
+use mathlib.Core.List.{List}
+use Prim.Native.Nat.{ℕ}
+use lib.ListN.{length}
+use Rattle.units.specs.declared.Rate.{Rate}
+use Rattle.units.specs.Verdict.{Decided}
+use Rattle.units.proofs.Verdicts.{AllNumbered, _and_, kept-by}
+use Rattle.lines.specs.declared.Listing.{Listing}
+use Rattle.lines.specs.Answer.{verdict, check, Listed}
+use Rattle.lines.proofs.Decided.{listed-decided}
+use Rattle.dayfile.proofs.Decided.{file-numbered}
+use Rattle.chargelisting.specs.ChargesText.{charges-check, file-text}
+
+charges-numbered : (rate : Rate) (file : List ℕ) → AllNumbered (charges-check rate file)
+unfolding charges-check
+charges-numbered rate file = kept-by _ 3 tt tt and file-numbered file
+
+pub charges-decided : (rate : Rate) (file : List ℕ) {lent after : List ℕ} {listing : Listing}
+    → Listed (charges-check rate file) (file-text rate file) lent after listing
+    → Decided (check (charges-check rate file) (file-text rate file) (length lent)) (length (file-text rate file)) 0 (verdict listing)
+charges-decided rate file = listed-decided (charges-numbered rate file)

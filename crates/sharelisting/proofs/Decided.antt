@@ -1,0 +1,17 @@
+-- The tests decide an answer of `list_shares`: the reader's, then the room for its text.
+use mathlib.Core.List.{List}
+use Prim.Native.Nat.{ℕ}
+use lib.ListN.{length}
+use Rattle.units.specs.Verdict.{Decided}
+use Rattle.lines.specs.declared.Listing.{Listing}
+use Rattle.lines.specs.Answer.{verdict, check, Listed}
+use Rattle.lines.proofs.Decided.{listed-decided}
+use Rattle.dayruns.specs.Walk.{file-check}
+use Rattle.dayfile.specs.File.{walked}
+use Rattle.dayfile.proofs.Decided.{file-numbered}
+use Rattle.sharelisting.specs.SharesText.{file-text}
+
+pub shares-decided : (file : List ℕ) {lent after : List ℕ} {listing : Listing}
+    → Listed (file-check (walked file)) (file-text file) lent after listing
+    → Decided (check (file-check (walked file)) (file-text file) (length lent)) (length (file-text file)) 0 (verdict listing)
+shares-decided file = listed-decided (file-numbered file)
