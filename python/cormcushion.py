@@ -17,6 +17,7 @@ OVERRUN_RATE = 359_000
 _SHARED_OBJECT = pathlib.Path(__file__).resolve().parent.parent.joinpath("target", "callers", "libcormcushion.so")
 _library = ctypes.CDLL(os.environ.get("CORMCUSHION_LIBRARY", str(_SHARED_OBJECT)))
 
+# What 1 counts for in the digits of 01's number, of which there are two; those before them are a kind, which no answer has yet.
 _ONE_NUMBER = 10**15
 # Every listing has room in so many bytes.
 _MOST_TEXT = 16_384
@@ -74,7 +75,7 @@ _overruns = _typed("cormcushion_overruns", *[ctypes.c_uint32] * 3, *[ctypes.c_vo
 
 def _figure(answer):
     """The figure of an accepted answer."""
-    number, figure = divmod(answer, _ONE_NUMBER)
+    number, figure = answer // _ONE_NUMBER % 100, answer % _ONE_NUMBER
     if number:
         raise Refusal(number, figure)
     return figure

@@ -64,6 +64,15 @@ def second_charges(file, rate):
     return listings.charges_listing(file, rate)
 
 
+class Packed(unittest.TestCase):
+    def test_a_kind_is_no_part_of_the_number(self):
+        kind = 2 * 10**17
+        self.assertEqual(340, cormcushion._figure(kind + 340))
+        with self.assertRaises(cormcushion.Refusal) as caught:
+            cormcushion._figure(kind + 5 * 10**15 + 40)
+        self.assertEqual((5, 40), (caught.exception.number, caught.exception.place))
+
+
 class Files(Held):
     def test_files(self):
         for file in some_files(100):

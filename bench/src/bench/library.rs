@@ -52,11 +52,11 @@ extern "C" {
     ) -> u64;
 }
 
-/// What the last fifteen digits leave of an answer is the refusal's number.
+/// The last fifteen digits of an answer are a figure or a place, the two before them the refusal's number.
 const NUMBER: u64 = 1_000_000_000_000_000;
 
 fn unpacked(answer: u64) -> Answer<u64> {
-    match (answer / NUMBER, answer % NUMBER) {
+    match (answer / NUMBER % 100, answer % NUMBER) {
         (0, figure) => Ok(figure),
         (number, place) => Err(Refusal { number: number as u8, place: place as usize }),
     }

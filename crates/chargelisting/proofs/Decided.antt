@@ -19,3 +19,7 @@ pub charges-decided : (rate : Rate) (file : List ℕ) {lent after : List ℕ} {l
     → Listed (charges-check rate file) (file-text rate file) lent after listing
     → Decided (check (charges-check rate file) (file-text rate file) (length lent)) (length (file-text rate file)) 0 (verdict listing)
 charges-decided rate file = listed-decided (charges-numbered rate file)
+
+pub charges-placed : (rate : Rate) (file : List ℕ) → PlacedTo most-file (charges-check rate file)
+unfolding charges-check
+charges-placed rate file = nowhere then-if plainly _ 3 then-if (λ e. file-placed file)

@@ -1,4 +1,5 @@
 pub mod Checking
 pub mod Charging
 pub mod Unpacking
+pub mod CallerReads
 pub mod Determined

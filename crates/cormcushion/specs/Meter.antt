@@ -13,9 +13,9 @@ use Rattle.metered.specs.declared.Side.{Side}
 use Rattle.daymeters.specs.Hours.{megajoules}
 use Rattle.overruns.specs.declared.day.Overruns.{Overruns}
 use Rattle.overruns.specs.declared.day.DayOverruns.{DayOverruns}
-use Rattle.overruns.specs.Day.{ShipperDay, day-answer}
+use Rattle.overruns.specs.Day.{ShipperDay, day-overruns, day-check, day-answer}
 use Rattle.tariff.specs.declared.charges.Charge.{Charge}
-use Rattle.tariff.specs.Charges.{overrun-charge}
+use Rattle.tariff.specs.Charges.{overrun-cents, overrun-charge}
 use Rattle.cormcushion.specs.Packed.{accepted, refused}
 
 -- a side's single figures: schedules of both sides, forward then backhaul, and the backhaul metered
@@ -78,6 +78,13 @@ rate-check rate = Check.Accepted then keep (leb rate most-rate) 3
 abbrev pub of-rated : Check → ℕ → ℕ
 of-rated Check.Accepted next = next
 of-rated (Check.Refused refusal) next = refused refusal
+
+-- all tests of the call, and the charge for the greatest overrun in cents
+abbrev pub charge-check : ℕ → ShipperDay → Check
+charge-check rate D = rate-check rate then day-check D
+
+abbrev pub charge-cents : ℕ → ShipperDay → ℕ
+charge-cents rate D = overrun-cents (rate-of rate) (day-overruns D .greatest) .0
 
 -- the statement of `cormcushion_overruns`
 pub record Charged (rate : ℕ) (D : ShipperDay) (lent : List ℕ) (packed : ℕ) (after : List ℕ) : Type 0 where

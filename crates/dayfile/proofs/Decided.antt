@@ -2,11 +2,12 @@
 -- the block's room is tested.
 use mathlib.Core.Path.{refl}
 use mathlib.Core.List.{List}
-use Prim.Native.Nat.{ℕ, _≤_}
+use Prim.Native.Nat.{ℕ}
 use native.Mathlib.Omega.{arith}
 use lib.ListN.{length}
 use Rattle.units.specs.Verdict.{Decided}
-use Rattle.units.proofs.Verdicts.{Refuses, refuses-then, refuses-keep, AllNumbered, _and_, kept-by, decided}
+use Rattle.units.proofs.Places.{PlacedTo, _then-if_, plainly}
+use Rattle.units.proofs.Verdicts.{AllNumbered, _and_, kept-by, decided}
 use Rattle.dayruns.specs.Walk.{file-check}
 use Rattle.dayruns.proofs.Decided.{refuses-walk, walk-numbered}
 use Rattle.dayfile.specs.declared.reader.Reading.{Reading}
@@ -18,7 +19,7 @@ use Rattle.dayfile.proofs.Reaching.{most-file, walked-reached}
 pub file-numbered : (file : List ℕ) → AllNumbered (file-check (walked file))
 file-numbered file = walk-numbered (walked file) (omega (arith, walked-reached file .fault))
 
-pub file-placed : (file : List ℕ) → Refuses (λ refusal. refusal .place ≤ most-file) (file-check (walked file))
+pub file-placed : (file : List ℕ) → PlacedTo most-file (file-check (walked file))
 file-placed file = refuses-walk _ (walked file) (λ some. walked-reached file .place)
 
 -- ---- the reader
@@ -26,9 +27,9 @@ reading-numbered : (file : List ℕ) (room : ℕ) → AllNumbered (check file ro
 unfolding check
 reading-numbered file room = file-numbered file and kept-by _ 7 tt tt
 
-pub reading-placed : (file : List ℕ) (room : ℕ) → Refuses (λ refusal. refusal .place ≤ most-file) (check file room)
+pub reading-placed : (file : List ℕ) (room : ℕ) → PlacedTo most-file (check file room)
 unfolding check
-reading-placed file room = refuses-then _ _ _ (file-placed file) (λ accepted. refuses-keep _ _ 7 (omega arith))
+reading-placed file room = file-placed file then-if plainly _ 7
 
 pub reading-decided : {file lent after : List ℕ} {reading : Reading} → Answered file lent after reading
     → Decided (check file (length lent)) (day-of file)

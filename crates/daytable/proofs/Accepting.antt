@@ -35,7 +35,7 @@ pub record Long (T : Table) : Type 0 where
   pub auction-schedule : rows T ≡ length (T .auction-schedule)
   pub lower-tier-schedule : rows T ≡ length (T .lower-tier-schedule)
 
-long : (T : Table) → lengths T ≡ Check.Accepted → Long T
+pub long : (T : Table) → lengths T ≡ Check.Accepted → Long T
 unfolding lengths
 long T e =
     let a = both-accepted _ _ e in
@@ -60,7 +60,7 @@ pub record Bounded (T : Table) : Type 0 where
   pub auction-schedule : (i : ℕ) → i < length (T .auction-schedule) → col (T .auction-schedule) i ≤ most-gigajoules
   pub lower-tier-schedule : (i : ℕ) → i < length (T .lower-tier-schedule) → col (T .lower-tier-schedule) i ≤ most-gigajoules
 
-bounded : (T : Table) → figures T ≡ Check.Accepted → Bounded T
+pub bounded : (T : Table) → figures T ≡ Check.Accepted → Bounded T
 unfolding figures
 bounded T e =
     let a = both-accepted _ _ e in

@@ -7,6 +7,7 @@ use Rattle.units.specs.declared.refusal.Refusal.{Refusal}
 use Rattle.units.specs.declared.refusal.Check.{Check}
 use Rattle.units.specs.declared.refusal.Check.the-variants.{Accepted}
 use Rattle.units.specs.Verdict.{Decided}
+use Rattle.units.proofs.Places.{PlacedTo, _then-if_, plainly}
 use Rattle.units.proofs.Verdicts.{AllNumbered, none, _and_, kept-by, decided}
 use Rattle.lines.specs.declared.Listing.{Listing}
 use Rattle.lines.specs.Line.{refused}
@@ -26,3 +27,8 @@ listed-decided {text = text} {lent} N L =
 pub line-decided : (refusal : Refusal) {lent after : List ℕ} {listing : Listing} → Listed Accepted (refused refusal) lent after listing
     → Decided (check Accepted (refused refusal) (length lent)) (length (refused refusal)) 0 (verdict listing)
 line-decided refusal = listed-decided none
+
+-- for callers: 7 has no place
+pub listed-placed : {most : ℕ} {tests : Check} (text : List ℕ) (room : ℕ) → PlacedTo most tests → PlacedTo most (check tests text room)
+unfolding check
+listed-placed text room P = P then-if plainly _ 7

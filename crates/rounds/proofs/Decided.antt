@@ -1,9 +1,10 @@
--- The tests decide an answer of `share_round`: number 0 exactly where they accept, zeros where they refuse.
+-- The tests decide an answer of `share_round`: number 0 exactly where they accept, zeros where they refuse; a refused row is one of 64.
 use mathlib.Core.Path.{refl}
 use mathlib.Core.List.{List}
 use Prim.Native.Nat.{ℕ}
 use lib.ListN.{length}
 use Rattle.units.specs.Verdict.{Decided}
+use Rattle.units.proofs.Places.{PlacedTo, _then-if_, plainly, two-lists}
 use Rattle.units.proofs.Verdicts.{AllNumbered, none, _and_, kept-by, cleared-by, decided}
 use Rattle.rounds.specs.declared.Round.{Round}
 use Rattle.rounds.specs.Answer.{check, given, answer, verdict, Answered}
@@ -22,3 +23,7 @@ round-numbered c ws qs room =
 pub round-decided : {c : ℕ} {ws qs lent after : List ℕ} {round : Round} → Answered c ws qs lent round after
     → Decided (check c ws qs (length lent)) (given c ws qs) (record { level = 0; total = record { 0 = 0 } }) (verdict round)
 round-decided {c} {ws} {qs} {lent} A = decided answer verdict refl (λ refusal. refl) (round-numbered c ws qs (length lent)) (A .answers)
+
+pub round-placed : (c : ℕ) (ws qs : List ℕ) (room : ℕ) → PlacedTo 63 (check c ws qs room)
+unfolding check
+round-placed c ws qs room = two-lists _ _ ws qs (plainly _ 3 refl) .placed then-if plainly _ 7

@@ -1,4 +1,5 @@
 pub mod Aboves
 pub mod Checks
 pub mod Determined
+pub mod Places
 pub mod Verdicts

@@ -1,0 +1,107 @@
+-- For every input, what a caller reads out of each function's number is the answer of the routine that it calls: the routine's tests
+-- decide that answer, its places lie within a full day's file, among 64 rows or 24 hours, and its figures are bounded.
+use mathlib.Core.Path.{_≡_, refl}
+use mathlib.Core.List.{List}
+use Prim.Native.Nat.{ℕ, _≤_}
+use native.Mathlib.Omega.{arith}
+use lib.ListN.{length}
+use Rattle.columns.specs.Column.{col}
+use Rattle.units.specs.declared.refusal.Check.{Check}
+use Rattle.units.specs.declared.refusal.Check.the-variants.{Accepted}
+use Rattle.units.specs.Verdict.{Decided}
+use Rattle.units.specs.Verdict.{of-check as check-verdict}
+use Rattle.units.proofs.Checks.{both-accepted}
+use Rattle.units.proofs.Places.{PlacedTo}
+use Rattle.units.proofs.Verdicts.{checked}
+use Rattle.sharing.proofs.Levels.{level-is}
+use Rattle.lines.specs.declared.Listing.{Listing}
+use Rattle.lines.specs.Answer as lines
+use Rattle.lines.proofs.Decided.{listed-placed}
+use Rattle.rounds.specs.Answer as rounds
+use Rattle.rounds.proofs.Decided.{round-decided, round-placed}
+use Rattle.daytable.specs.Table.{Table}
+use Rattle.daytable.proofs.Accepting.{accepting}
+use Rattle.daytable.proofs.Decided.{table-placed}
+use Rattle.dayshares.specs.Answer as dayshares
+use Rattle.dayshares.proofs.Decided.{day-decided}
+use Rattle.dayformat.specs.Layout.{numbers-in}
+use Rattle.dayruns.specs.Walk.{file-check}
+use Rattle.dayfile.specs.File.{walked}
+use Rattle.dayfile.specs.Answer as reader
+use Rattle.dayfile.proofs.Reaching.{most-file, numbers-most}
+use Rattle.dayfile.proofs.Decided.{file-numbered, file-placed, reading-placed, reading-decided}
+use Rattle.sharelisting.specs.SharesText as shares
+use Rattle.sharelisting.proofs.Decided.{shares-decided}
+use Rattle.sharelisting.proofs.Sizes as shares-sizes
+use Rattle.chargelisting.specs.ChargesText as charges
+use Rattle.chargelisting.proofs.Decided.{charges-decided, charges-placed}
+use Rattle.chargelisting.proofs.Sizes as charges-sizes
+use Rattle.pointlisting.specs.PointsText as points
+use Rattle.pointlisting.proofs.Decided.{points-decided}
+use Rattle.pointlisting.proofs.Sizes as points-sizes
+use Rattle.cormcushion.specs.Packed.{of-check, Reads}
+use Rattle.cormcushion.specs.Answers.{of-listing, of-reading, of-round, of-shares}
+use Rattle.cormcushion.specs.Lent.{Listed, DayRead, RoundShared, DayShared}
+use Rattle.cormcushion.proofs.Unpacking.{most-figure, found-reads, answer-packs}
+
+-- ---- capacity: the level of a round, LEFT of a day
+pub round-reads : {c : ℕ} {ws qs lent after : List ℕ} {packed : ℕ} (R : RoundShared c ws qs lent packed after)
+    → Reads packed (rounds.verdict (R .round)) (λ given. given .level)
+round-reads {c} {ws} {qs} {lent} R =
+    found-reads (λ given. given .level) (omega arith)
+    (answer-packs rounds.answer of-round (λ given. given .level) refl (λ refusal. refl) (R .answers .answers) (R .packs))
+    (round-decided (R .answers)) (round-placed c ws qs (length lent))
+    (λ accepted. omega (arith, level-is (length ws) (col ws) (col qs) c .capped))
+
+pub shares-reads : {T : Table} {firm auction lower-tier levels firm-after auction-after lower-tier-after levels-after : List ℕ}
+    {packed : ℕ} (D : DayShared T firm auction lower-tier levels packed firm-after auction-after lower-tier-after levels-after)
+    → Reads packed (dayshares.verdict (D .day)) (λ given. given .left .0)
+shares-reads {T} D =
+    found-reads (λ given. given .left .0) (omega arith)
+    (answer-packs dayshares.answer of-shares (λ given. given .left .0) refl (λ refusal. refl) (D .answers .answers) (D .packs))
+    (day-decided (D .answers)) (table-placed T _ _ _)
+    (λ accepted. let B = accepting T _ _ _ accepted .bounded in omega (arith, B .free-flow, B .compressor))
+
+-- ---- a day's file: how many numbers it has
+pub check-reads : (file : List ℕ) {packed : ℕ} → packed ≡ of-check (file-check (walked file)) (numbers-in (walked file .counts))
+    → Reads packed (check-verdict (file-check (walked file))) (λ none. numbers-in (walked file .counts))
+check-reads file e =
+    found-reads (λ none. numbers-in (walked file .counts)) (omega arith) e (checked (file-numbered file) refl) (file-placed file)
+    (λ accepted. omega (arith, numbers-most file))
+
+pub reading-reads : {file day lent day-after after : List ℕ} {packed : ℕ} (R : DayRead file day lent packed day-after after)
+    → Reads packed (reader.verdict (R .reading)) (λ day. numbers-in (day .counts))
+reading-reads {file} {lent = lent} R =
+    found-reads (λ day. numbers-in (day .counts)) (omega arith)
+    (answer-packs reader.answer of-reading (λ day. numbers-in (day .counts)) refl (λ refusal. refl) (R .answers .answers) (R .packs))
+    (reading-decided (R .answers)) (reading-placed file (length lent)) (λ accepted. omega (arith, numbers-most file))
+
+-- ---- listings: the size of a text
+module _ {tests : Check} {text lent after : List ℕ} {packed : ℕ} (L : Listed tests text lent after packed) where
+  listing-reads : PlacedTo most-file tests → (tests ≡ Accepted → length text ≤ most-figure)
+      → Decided (lines.check tests text (length lent)) (length text) 0 (lines.verdict (L .listing))
+      → Reads packed (lines.verdict (L .listing)) (λ size. size)
+  unfolding lines.check
+  listing-reads placed small D =
+      found-reads (λ size. size) (omega arith)
+      (answer-packs lines.answer of-listing (λ size. size) refl (λ refusal. refl) (L .answers .answers) (L .packs)) D
+      (listed-placed text (length lent) placed) (λ accepted. small (both-accepted _ _ accepted .0))
+
+pub list-shares-reads : (file : List ℕ) {lent after : List ℕ} {packed : ℕ}
+    (L : Listed (file-check (walked file)) (shares.file-text file) lent after packed)
+    → Reads packed (lines.verdict (L .listing)) (λ size. size)
+list-shares-reads file L =
+    listing-reads L (file-placed file) (λ accepted. omega (arith, shares-sizes.text-most file accepted)) (shares-decided file (L .answers))
+
+pub list-charges-reads : (rate : ℕ) (file : List ℕ) {lent after : List ℕ} {packed : ℕ}
+    (L : Listed (charges.charges-check (record { 0 = rate }) file) (charges.file-text (record { 0 = rate }) file) lent after packed)
+    → Reads packed (lines.verdict (L .listing)) (λ size. size)
+list-charges-reads rate file L =
+    listing-reads L (charges-placed _ file) (λ accepted. omega (arith, charges-sizes.text-most _ file accepted))
+    (charges-decided _ file (L .answers))
+
+pub list-points-reads : (file : List ℕ) {lent after : List ℕ} {packed : ℕ}
+    (L : Listed (file-check (walked file)) (points.file-text file) lent after packed)
+    → Reads packed (lines.verdict (L .listing)) (λ size. size)
+list-points-reads file L =
+    listing-reads L (file-placed file) (λ accepted. omega (arith, points-sizes.text-most file accepted)) (points-decided file (L .answers))
