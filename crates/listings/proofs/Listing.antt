@@ -62,11 +62,14 @@ module _ (file lent after : List ℕ) (room : length lent ≡ 6_880) (x : Refusa
 
 -- ---- a day
 module _ (file lent numbers : List ℕ) (day : Day) (are : AreBytes file) (R : reader.Answered file lent numbers (Reading.Read day)) where
+  is-read : (reader.check file (length lent) ≡ Accepted) × (day ≡ day-of file)
+  is-read = told file lent numbers (Reading.Read day) R refl
+
   part-is : take (numbers-in (day .counts)) numbers ≡ tables file .numbers
-  part-is = taken-numbers file lent numbers day R are
+  part-is = taken-numbers file lent numbers (Reading.Read day) R refl are
 
   pub part-sound : sound day (take (numbers-in (day .counts)) numbers) ≡ Accepted
-  part-sound = rw (part-is, told file lent numbers day R .1) (day-accepted file (reads-day file lent numbers day R .accepted))
+  part-sound = rw (part-is, is-read .1) (day-accepted file (reads-day file lent numbers (Reading.Read day) R refl .accepted))
 
   -- whatever text a listing makes of a day and its numbers
   pub lists-day : (text : Day → List ℕ → List ℕ) {block after : List ℕ} {listing : Listing}
@@ -74,11 +77,11 @@ module _ (file lent numbers : List ℕ) (day : Day) (are : AreBytes file) (R : r
       → Listed (file-check (walked file)) (text (day-of file) (tables file .numbers)) block after listing
   unfolding reader.check
   lists-day text L =
-      let accepted = both-accepted (file-check (walked file)) _ (told file lent numbers day R .0) .0 in
-      rw accepted (rw (part-is, told file lent numbers day R .1) at L)
+      let accepted = both-accepted (file-check (walked file)) _ (is-read .0) .0 in
+      rw accepted (rw (part-is, is-read .1) at L)
 
   pub part-inside : length numbers ≡ length lent → numbers-in (day .counts) ≤ length numbers
-  part-inside e = omega (arith, e, lent-room file lent numbers day R)
+  part-inside e = omega (arith, e, lent-room file lent numbers (Reading.Read day) R refl)
 
   pub part-long : length numbers ≡ length lent → numbers-in (day .counts) ≡ length (take (numbers-in (day .counts)) numbers)
   part-long e = sym (length-take-le (numbers-in (day .counts)) numbers (part-inside e))

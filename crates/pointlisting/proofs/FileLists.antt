@@ -1,5 +1,5 @@
 -- A file's tag 4 bytes, cut out and parted where side 1 begins, are the lists that a day's points are read from.
-use mathlib.Core.Path.{_≡_, ap, ap₂, sym, _∙_}
+use mathlib.Core.Path.{_≡_, refl, ap, ap₂, sym, _∙_}
 use mathlib.Core.List.{List}
 use Prim.Native.Nat.{ℕ, _+_, _-_, _*_, _/_, _≤_}
 use native.Mathlib.Omega.{arith}
@@ -26,7 +26,8 @@ use Rattle.pointlisting.specs.Readable.{Readable}
 -- what the reader has answered is read out of the file
 pub reads-part : (file lent numbers : List ℕ) (day : Day) → AreBytes file → reader.Answered file lent numbers (Reading.Read day)
     → Reads file day (take (numbers-in (day .counts)) numbers)
-reads-part file lent numbers day are R = rw (taken-numbers file lent numbers day R are) (reads-day file lent numbers day R)
+reads-part file lent numbers day are R =
+    rw (taken-numbers file lent numbers (Reading.Read day) R refl are) (reads-day file lent numbers (Reading.Read day) R refl)
 
 module _ (file : List ℕ) (are : AreBytes file) (day : Day) (numbers : List ℕ) (R : Reads file day numbers) {start end : ℕ}
     (start-is : start ≡ entries-start (day .counts)) (end-is : end ≡ entries-start (day .counts) + run-size (day .counts) Entry) where

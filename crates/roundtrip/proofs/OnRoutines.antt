@@ -1,4 +1,4 @@
--- The round trips of the routines' answers: an answer that is no refusal says what was accepted, and where the figures stand.
+-- The round trips of the routines' answers: one of number 0 says what was accepted, and where the figures stand.
 use mathlib.Core.Path.{_≡_, refl, ap, sym, _∙_}
 use mathlib.Core.Bool.{Bool, true, false, true≢false}
 use mathlib.Core.List.{List}
@@ -22,6 +22,7 @@ use Rattle.dayfile.specs.File.{tables, walked}
 use Rattle.dayruns.specs.Walk.{file-check}
 use Rattle.dayfile.specs.Answer.{day-of}
 use Rattle.dayfile.specs.Answer as reader
+use Rattle.dayfile.proofs.Decided.{reading-decided}
 use Rattle.dayruns.proofs.Ending.{faultless}
 use Rattle.daywriter.specs.declared.Written.{Written}
 use Rattle.daywriter.specs.declared.Written.the-variants as Written
@@ -30,6 +31,7 @@ use Rattle.daywriter.specs.Acceptance.{sound}
 use Rattle.daywriter.specs.Acceptance as writer
 use Rattle.daywriter.specs.Answer as writer-answer
 use Rattle.daywriter.proofs.Accepting.{accepting}
+use Rattle.daywriter.proofs.Decided.{written-decided}
 use Rattle.daywriter.proofs.Sizes.{length-file-of}
 use Rattle.roundtrip.specs.RoundTrip.{Reads, File-again, Day-again}
 use Rattle.roundtrip.proofs.RoundTrips.{round-trips}
@@ -39,31 +41,14 @@ take-front : (figures list : List ℕ) (n : ℕ) → length figures ≡ n → n 
 take-front figures list n e l =
     ap (take n) (sets-eq figures list 0 (omega (arith, e, l))) ∙ take-at figures (drop (0 + length figures) list) n e
 
--- ---- an answered day was accepted
-read-accepted : (check : Check) (found day : Day) → Reading.Read day ≡ reader.answer check found → (check ≡ Accepted) × (day ≡ found)
-read-accepted Accepted found day e = (refl, ap (read-or found) e)
-  where
-    read-or : Day → Reading → Day
-    read-or day (Reading.Refused refusal) = day
-    read-or day (Reading.Read read) = read
-read-accepted (Refused refusal) found day e = absurd (true≢false (ap is-read e))
-  where
-    is-read : Reading → Bool
-    is-read (Reading.Refused refusal) = false
-    is-read (Reading.Read read) = true
+-- ---- a day that is answered with number 0 was accepted
+module _ (file lent numbers : List ℕ) (reading : Reading) (R : reader.Answered file lent numbers reading)
+    (zero : reader.verdict reading .number ≡ 0) where
+  abbrev day : Day
+  day = reader.verdict reading .figures
 
-written-accepted : (check : Check) (found size : ℕ) → Written.Bytes size ≡ writer-answer.answer check found → (check ≡ Accepted)
-    × (size ≡ found)
-written-accepted Accepted found size e = (refl, ap (λ written. writer-answer.verdict written .figures) e)
-written-accepted (Refused refusal) found size e = absurd (true≢false (ap is-written e))
-  where
-    is-written : Written → Bool
-    is-written (Written.Refused refusal) = false
-    is-written (Written.Bytes many) = true
-
-module _ (file lent numbers : List ℕ) (day : Day) (R : reader.Answered file lent numbers (Reading.Read day)) where
   pub told : (reader.check file (length lent) ≡ Accepted) × (day ≡ day-of file)
-  told = read-accepted (reader.check file (length lent)) (day-of file) day (R .answers)
+  told = let accepted = reading-decided R .exactly zero in (accepted, reading-decided R .accepted accepted .2)
 
   both : (file-check (walked file) ≡ Accepted) × (keep (leb (numbers-in (walked file .counts)) (length lent)) 7 ≡ Accepted)
   unfolding reader.check
@@ -92,14 +77,16 @@ module _ (file lent numbers : List ℕ) (day : Day) (R : reader.Answered file le
 
 pub file-again : File-again
 unfolding writer.check
-file-again file lent numbers block after day written are R A room =
-    let taken = taken-numbers file lent numbers day R are in
-    let W = round-trips .file-again file day (tables file .numbers) are (reads-day file lent numbers day R) in
+file-again file lent numbers block after reading day written are R zero is A room =
+    let taken : take (numbers-in (day .counts)) numbers ≡ tables file .numbers = rw is at (taken-numbers file lent numbers reading R zero are) in
+    let W = round-trips .file-again file day (tables file .numbers) are (rw is at (reads-day file lent numbers reading R zero)) in
     let accepted : writer.check day (take (numbers-in (day .counts)) numbers) (length block) ≡ Accepted =
     rw taken (accepts-both (W .accepted) (accepts-kept 7 (le-leb _ _ room)))
     in let long : file-size (day .counts) ≡ length file = sym (length-file-of day (col (tables file .numbers))) ∙ ap length (W .file-is)
+    in let written-told = written-decided A .accepted accepted
     in (
-      A .answers ∙ rw (accepted, long),
+      written-told .0,
+      written-told .2 ∙ long,
       rw (A .leaves, accepted, taken, W .file-is) (take-front file block (length file) refl (omega (arith, long, room))),
     )
 
@@ -113,17 +100,20 @@ reads-accepted file day numbers room R l =
 
 pub day-again : Day-again
 unfolding writer.check
-day-again numbers block bytes lent after day size reading u32 A R room =
-    let told = written-accepted (writer.check day numbers (length block)) (file-size (day .counts)) size (A .answers) in
-    let both = both-accepted (sound day numbers) (keep (leb (file-size (day .counts)) (length block)) 7) (told .0) in
+day-again numbers block bytes lent after day written size reading u32 A zero is R room =
+    let accepted-day = written-decided A .exactly zero in
+    let long : size ≡ file-size (day .counts) = sym is ∙ written-decided A .accepted accepted-day .2 in
+    let both = both-accepted (sound day numbers) (keep (leb (file-size (day .counts)) (length block)) 7) accepted-day in
     let fits = leb-true (file-size (day .counts)) (length block) (kept _ 7 (both .1)) in
     let taken : take size bytes ≡ file-of day (col numbers) =
-    rw (A .leaves, told .0)
-    (take-front (file-of day (col numbers)) block size (length-file-of day (col numbers) ∙ sym (told .1)) (omega (arith, told .1, fits)))
+    rw (A .leaves, accepted-day)
+    (take-front (file-of day (col numbers)) block size (length-file-of day (col numbers) ∙ sym long) (omega (arith, long, fits)))
     in let D = round-trips .day-again day numbers (take size bytes) u32 (record { accepted = both .0; file-is = sym taken })
     in let accepted = reads-accepted (take size bytes) day numbers (length lent) D room
+    in let read-told = reading-decided R .accepted accepted
     in (
-      R .answers ∙ rw (accepted, D .day-is),
+      read-told .0,
+      read-told .2 ∙ D .day-is,
       rw (R .leaves, accepted, D .numbers-are)
           (take-front numbers lent (numbers-in (day .counts)) (accepting day numbers (both .0) .long) room),
     )

@@ -9,12 +9,10 @@ use Rattle.units.specs.declared.refusal.Check.the-variants.{Accepted}
 use Rattle.dayformat.specs.declared.day.Day.{Day}
 use Rattle.dayformat.specs.Layout.{numbers-in, file-size}
 use Rattle.dayfile.specs.declared.reader.Reading.{Reading}
-use Rattle.dayfile.specs.declared.reader.Reading.the-variants as Reading
 use Rattle.dayfile.specs.File.{tables, walked}
 use Rattle.dayfile.specs.Answer.{day-of}
 use Rattle.dayfile.specs.Answer as reader
 use Rattle.daywriter.specs.declared.Written.{Written}
-use Rattle.daywriter.specs.declared.Written.the-variants.{Bytes}
 use Rattle.daywriter.specs.Written.{file-of}
 use Rattle.daywriter.specs.Acceptance.{sound}
 use Rattle.daywriter.specs.Answer as writer
@@ -35,22 +33,22 @@ pub record RoundTrips : Type 0 where
   pub file-again : (file : List ℕ) (day : Day) (numbers : List ℕ) → AreBytes file → Reads file day numbers → Writes day numbers file
   pub day-again : (day : Day) (numbers file : List ℕ) → day .head .day < 2 ^ 32 → Writes day numbers file → Reads file day numbers
 
--- ---- the same of the routines' answers
+-- ---- the same of the routines' answers of number 0
 -- what is read out of a file, written again into a block with room, is the file
 abbrev pub File-again : Type 0
 File-again =
-    (file lent numbers block after : List ℕ) (day : Day) (written : Written) → AreBytes file
-    → reader.Answered file lent numbers (Reading.Read day)
+    (file lent numbers block after : List ℕ) (reading : Reading) (day : Day) (written : Written) → AreBytes file
+    → reader.Answered file lent numbers reading → reader.verdict reading .number ≡ 0 → reader.verdict reading .figures ≡ day
     → writer.Answered day (take (numbers-in (day .counts)) numbers) block after written → file-size (day .counts) ≤ length block
-    → (written ≡ Bytes (length file)) × (take (length file) after ≡ file)
+    → (writer.verdict written .number ≡ 0) × (writer.verdict written .figures ≡ length file) × (take (length file) after ≡ file)
 
 -- what is written, read again into a block with room, is the day
 abbrev pub Day-again : Type 0
 Day-again =
-    (numbers block bytes lent after : List ℕ) (day : Day) (size : ℕ) (reading : Reading) → day .head .day < 2 ^ 32
-    → writer.Answered day numbers block bytes (Bytes size) → reader.Answered (take size bytes) lent after reading
-    → numbers-in (day .counts) ≤ length lent
-    → (reading ≡ Reading.Read day) × (take (numbers-in (day .counts)) after ≡ numbers)
+    (numbers block bytes lent after : List ℕ) (day : Day) (written : Written) (size : ℕ) (reading : Reading) → day .head .day < 2 ^ 32
+    → writer.Answered day numbers block bytes written → writer.verdict written .number ≡ 0 → writer.verdict written .figures ≡ size
+    → reader.Answered (take size bytes) lent after reading → numbers-in (day .counts) ≤ length lent
+    → (reader.verdict reading .number ≡ 0) × (reader.verdict reading .figures ≡ day) × (take (numbers-in (day .counts)) after ≡ numbers)
 
 -- ---- the writer accepts exactly the days that the reader can answer
 abbrev pub Exactly : Type 0
