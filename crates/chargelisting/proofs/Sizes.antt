@@ -20,12 +20,9 @@ use Rattle.tariff.specs.HalfUp.{half-up}
 use Rattle.tariff.specs.Charges.{cents, overrun-cents, overrun-charge}
 use Rattle.dayformat.specs.declared.day.Day.{Day}
 use Rattle.dayformat.specs.declared.form.Tag.the-variants.{Meter}
-use Rattle.dayformat.specs.Format.{body, column-in}
+use Rattle.dayformat.specs.Format.{column-in}
 use Rattle.dayformat.specs.Layout.{count}
 use Rattle.dayformat.specs.Table.{joined}
-use Rattle.dayrows.specs.declared.Source.the-variants.{File}
-use Rattle.dayrows.specs.declared.Test.the-variants.{Bounds}
-use Rattle.dayrows.proofs.Within.{passes-bounded, within-bounds}
 use Rattle.dayruns.proofs.Ending.{faultless}
 use Rattle.dayfile.specs.File.{tables, walked}
 use Rattle.dayfile.specs.Answer.{day-of}
@@ -34,7 +31,7 @@ use Rattle.roundtrip.proofs.FileAgain.{day-number}
 use Rattle.daymeters.specs.Figures.{meter-figures}
 use Rattle.listings.specs.MeterDay.{shipper-day}
 use Rattle.listings.proofs.Lines.{texts-most}
-use Rattle.listings.proofs.ReadSound.{read-sound}
+use Rattle.listings.proofs.ReadSound.{read-sound, sound-number}
 use Rattle.listings.proofs.OverrunsAccept.{meter-accepts}
 use Rattle.listings.proofs.ChargesAccept.{charges-accept}
 use Rattle.chargelisting.specs.ChargesText.{rate-word, head-line, charge-figures, charges-text, charges-check, file-text}
@@ -74,11 +71,7 @@ module _ (rate : Rate) (kept-rate : rate .0 ≤ most-rate) where
   module _ (day : Day) (numbers : List ℕ) (S : Sound day numbers) where
     shipper-small : (row : ℕ) → row < count (day .counts) Meter → meter-figures (day .counts) numbers row .shipper ≤ 65_535
     unfolding column-in
-    shipper-small row l =
-        rw (meter-accepts day numbers S row l)
-        (within-bounds (column-in (body Meter) 0) _
-        (passes-bounded File (day .counts) (col numbers) Meter row (S .passes Meter tt Bounds row l) .1 0 (omega arith))
-        .1)
+    shipper-small row l = rw (meter-accepts day numbers S row l) (sound-number day numbers S Meter tt row l 0 (omega arith))
 
     abbrev row-line : ℕ → List ℕ
     row-line row = line (decimals (charge-figures rate (day .counts) numbers row))

@@ -1,6 +1,6 @@
 -- For every input, what a caller reads out of each function's number is the answer of the routine that it calls: the routine's tests
 -- decide that answer, its places lie within a full day's file, among 64 rows or 24 hours, and its figures are bounded.
-use mathlib.Core.Path.{_≡_, refl}
+use mathlib.Core.Path.{_≡_, refl, _∙_}
 use mathlib.Core.List.{List}
 use Prim.Native.Nat.{ℕ, _≤_}
 use native.Mathlib.Omega.{arith}
@@ -42,50 +42,49 @@ use Rattle.pointlisting.proofs.Sizes as points-sizes
 use Rattle.cormcushion.specs.Packed.{of-check, Reads}
 use Rattle.cormcushion.specs.Answers.{of-listing, of-reading, of-round, of-shares}
 use Rattle.cormcushion.specs.Lent.{Listed, DayRead, RoundShared, DayShared}
-use Rattle.cormcushion.proofs.Unpacking.{most-figure, found-reads, answer-packs}
+use Rattle.cormcushion.specs.Meter.{shipper-day, charge-check, charge-cents, Charged}
+use Rattle.cormcushion.proofs.ChargeTests.{charge-numbered, charge-placed, charge-packs, charge-most}
+use Rattle.cormcushion.proofs.Unpacking.{most-figure, found-reads, answer-reads}
 
 -- ---- capacity: the level of a round, LEFT of a day
 pub round-reads : {c : ℕ} {ws qs lent after : List ℕ} {packed : ℕ} (R : RoundShared c ws qs lent packed after)
     → Reads packed (rounds.verdict (R .round)) (λ given. given .level)
 round-reads {c} {ws} {qs} {lent} R =
-    found-reads (λ given. given .level) (omega arith)
-    (answer-packs rounds.answer of-round (λ given. given .level) refl (λ refusal. refl) (R .answers .answers) (R .packs))
-    (round-decided (R .answers)) (round-placed c ws qs (length lent))
+    answer-reads (round-decided (R .answers)) (λ given. given .level) (round-placed c ws qs (length lent)) (omega arith)
     (λ accepted. omega (arith, level-is (length ws) (col ws) (col qs) c .capped))
+    rounds.answer of-round refl (λ refusal. refl) (R .answers .answers) (R .packs)
 
 pub shares-reads : {T : Table} {firm auction lower-tier levels firm-after auction-after lower-tier-after levels-after : List ℕ}
     {packed : ℕ} (D : DayShared T firm auction lower-tier levels packed firm-after auction-after lower-tier-after levels-after)
     → Reads packed (dayshares.verdict (D .day)) (λ given. given .left .0)
 shares-reads {T} D =
-    found-reads (λ given. given .left .0) (omega arith)
-    (answer-packs dayshares.answer of-shares (λ given. given .left .0) refl (λ refusal. refl) (D .answers .answers) (D .packs))
-    (day-decided (D .answers)) (table-placed T _ _ _)
+    answer-reads (day-decided (D .answers)) (λ given. given .left .0) (table-placed T _ _ _) (omega arith)
     (λ accepted. let B = accepting T _ _ _ accepted .bounded in omega (arith, B .free-flow, B .compressor))
+    dayshares.answer of-shares refl (λ refusal. refl) (D .answers .answers) (D .packs)
 
 -- ---- a day's file: how many numbers it has
 pub check-reads : (file : List ℕ) {packed : ℕ} → packed ≡ of-check (file-check (walked file)) (numbers-in (walked file .counts))
     → Reads packed (check-verdict (file-check (walked file))) (λ none. numbers-in (walked file .counts))
-check-reads file e =
-    found-reads (λ none. numbers-in (walked file .counts)) (omega arith) e (checked (file-numbered file) refl) (file-placed file)
+check-reads file =
+    found-reads (checked (file-numbered file) refl) (λ none. numbers-in (walked file .counts)) (file-placed file) (omega arith)
     (λ accepted. omega (arith, numbers-most file))
 
 pub reading-reads : {file day lent day-after after : List ℕ} {packed : ℕ} (R : DayRead file day lent packed day-after after)
     → Reads packed (reader.verdict (R .reading)) (λ day. numbers-in (day .counts))
 reading-reads {file} {lent = lent} R =
-    found-reads (λ day. numbers-in (day .counts)) (omega arith)
-    (answer-packs reader.answer of-reading (λ day. numbers-in (day .counts)) refl (λ refusal. refl) (R .answers .answers) (R .packs))
-    (reading-decided (R .answers)) (reading-placed file (length lent)) (λ accepted. omega (arith, numbers-most file))
+    answer-reads (reading-decided (R .answers)) (λ day. numbers-in (day .counts)) (reading-placed file (length lent)) (omega arith)
+    (λ accepted. omega (arith, numbers-most file)) reader.answer of-reading refl (λ refusal. refl) (R .answers .answers) (R .packs)
 
 -- ---- listings: the size of a text
-module _ {tests : Check} {text lent after : List ℕ} {packed : ℕ} (L : Listed tests text lent after packed) where
-  listing-reads : PlacedTo most-file tests → (tests ≡ Accepted → length text ≤ most-figure)
-      → Decided (lines.check tests text (length lent)) (length text) 0 (lines.verdict (L .listing))
-      → Reads packed (lines.verdict (L .listing)) (λ size. size)
-  unfolding lines.check
-  listing-reads placed small D =
-      found-reads (λ size. size) (omega arith)
-      (answer-packs lines.answer of-listing (λ size. size) refl (λ refusal. refl) (L .answers .answers) (L .packs)) D
-      (listed-placed text (length lent) placed) (λ accepted. small (both-accepted _ _ accepted .0))
+listing-reads : {tests : Check} {text lent after : List ℕ} {packed : ℕ} (L : Listed tests text lent after packed)
+    → PlacedTo most-file tests → (tests ≡ Accepted → length text ≤ most-figure)
+    → Decided (lines.check tests text (length lent)) (length text) 0 (lines.verdict (L .listing))
+    → Reads packed (lines.verdict (L .listing)) (λ size. size)
+unfolding lines.check
+listing-reads {text = text} {lent} L placed small D =
+    answer-reads D (λ size. size) (listed-placed text (length lent) placed) (omega arith)
+    (λ accepted. small (both-accepted _ _ accepted .0))
+    lines.answer of-listing refl (λ refusal. refl) (L .answers .answers) (L .packs)
 
 pub list-shares-reads : (file : List ℕ) {lent after : List ℕ} {packed : ℕ}
     (L : Listed (file-check (walked file)) (shares.file-text file) lent after packed)
@@ -105,3 +104,14 @@ pub list-points-reads : (file : List ℕ) {lent after : List ℕ} {packed : ℕ}
     → Reads packed (lines.verdict (L .listing)) (λ size. size)
 list-points-reads file L =
     listing-reads L (file-placed file) (λ accepted. omega (arith, points-sizes.text-most file accepted)) (points-decided file (L .answers))
+
+-- ---- a shipper's day: the charge in cents
+pub charge-reads : (rate p m : ℕ) (yesterday delivered received schedules metered : List ℕ) {lent after : List ℕ} {packed : ℕ}
+    → Charged rate (shipper-day p m yesterday delivered received schedules metered) lent packed after
+    → Reads packed (check-verdict (charge-check rate (shipper-day p m yesterday delivered received schedules metered)))
+    (λ none. charge-cents rate (shipper-day p m yesterday delivered received schedules metered))
+charge-reads rate p m yesterday delivered received schedules metered C =
+    let D = shipper-day p m yesterday delivered received schedules metered in
+    found-reads (checked (charge-numbered rate p m yesterday delivered received schedules metered) refl) (λ none. charge-cents rate D)
+    (charge-placed rate p m yesterday delivered received schedules metered) (omega arith)
+    (λ accepted. omega (arith, charge-most rate D accepted)) (C .answers ∙ charge-packs rate D)

@@ -4,7 +4,6 @@ use mathlib.Core.List.{List}
 use Prim.Native.Nat.{ℕ}
 use lib.ListN.{length}
 use Rattle.units.proofs.Checks.{both-accepted}
-use Rattle.bigendian.specs.Number.{AreBytes}
 use Rattle.dayformat.specs.Layout.{numbers-in}
 use Rattle.dayruns.specs.Walk.{file-check}
 use Rattle.dayfile.specs.declared.reader.Reading.{Reading}
@@ -16,10 +15,10 @@ use Rattle.listings.proofs.Listing.{file-refused}
 use Rattle.cormcushion.specs.Packed.{of-check}
 use Rattle.cormcushion.specs.Answers.{of-reading}
 
-module _ (file lent after : List ℕ) (are : AreBytes file) (room : length lent ≡ 6_880) where
+module _ (file lent after : List ℕ) (room : length lent ≡ 6_880) where
   pub checked : (reading : Reading) → reader.Answered file lent after reading
       → of-reading reading ≡ of-check (file-check (walked file)) (numbers-in (walked file .counts))
   unfolding reader.check
-  checked (Refused x) R = rw (file-refused file lent after are room x R)
+  checked (Refused x) R = rw (file-refused file lent after room x R)
   checked (Read day) R =
       rw (both-accepted (file-check (walked file)) _ (told file lent after day R .0) .0, told file lent after day R .1)

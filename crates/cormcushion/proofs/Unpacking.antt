@@ -14,22 +14,23 @@ use Rattle.cormcushion.specs.Packed.{accepted, refused, of-check, Reads}
 abbrev pub most-figure : ℕ
 most-figure = 999_999_999_999_999
 
-module _ {Figures : Type 0} {worked-out zeros : Figures} {verdict : Verdict Figures} (figure : Figures → ℕ) {most : ℕ}
-    (few : most ≤ most-figure) where
-  by-cases : (found : Check) → Decided found worked-out zeros verdict → PlacedTo most found
-      → (found ≡ Accepted → figure worked-out ≤ most-figure) → Reads (of-check found (figure worked-out)) verdict figure
-  by-cases Accepted D placed small =
-      let says = D .accepted refl in
-      let fits = small refl in
+-- an answer that the tests decide, with places and a figure that fit
+module _ {Figures : Type 0} {found : Check} {worked-out zeros : Figures} {verdict : Verdict Figures}
+    (D : Decided found worked-out zeros verdict) (figure : Figures → ℕ) {most : ℕ} (placed : PlacedTo most found)
+    (few : most ≤ most-figure) (small : found ≡ Accepted → figure worked-out ≤ most-figure) where
+  by-cases : (is : Check) → found ≡ is → Reads (of-check is (figure worked-out)) verdict figure
+  by-cases Accepted e =
+      let says = D .accepted e in
+      let fits = small e in
       record {
         of-kind = omega (arith, fits);
         of-number = omega (arith, fits, says .0);
         of-figure = λ zero. rw (says .2) (omega (arith, fits));
         of-place = λ some. absurd (some (says .0));
       }
-  by-cases (Refused refusal) D placed small =
-      let says = D .refused refusal refl in
-      let fits = placed refusal refl in
+  by-cases (Refused refusal) e =
+      let says = D .refused refusal e in
+      let fits = placed refusal e in
       record {
         of-kind = omega (arith, fits, few, says .3 .most);
         of-number = omega (arith, fits, few, says .0, says .3 .most);
@@ -37,19 +38,16 @@ module _ {Figures : Type 0} {worked-out zeros : Figures} {verdict : Verdict Figu
         of-place = λ some. omega (arith, fits, few, says .1);
       }
 
-  -- a number that is what the tests find, packed
-  pub found-reads : {found : Check} {packed : ℕ} → packed ≡ of-check found (figure worked-out) → Decided found worked-out zeros verdict
-      → PlacedTo most found → (found ≡ Accepted → figure worked-out ≤ most-figure) → Reads packed verdict figure
-  found-reads {found} e D placed small = rw e (by-cases found D placed small)
+  pub found-reads : {packed : ℕ} → packed ≡ of-check found (figure worked-out) → Reads packed verdict figure
+  found-reads e = rw e (by-cases found refl)
 
--- and of an answer made of what the tests find, packed by cases
-pub answer-packs : {Answer Figures : Type 0} {worked-out : Figures} (answer : Check → Figures → Answer) (pack : Answer → ℕ)
-    (figure : Figures → ℕ) → pack (answer Accepted worked-out) ≡ accepted (figure worked-out)
-    → ((refusal : Refusal) → pack (answer (Refused refusal) worked-out) ≡ refused refusal)
-    → {found : Check} {given : Answer} {packed : ℕ} → given ≡ answer found worked-out → packed ≡ pack given
-    → packed ≡ of-check found (figure worked-out)
-answer-packs {worked-out = worked-out} answer pack figure accepts refuses {found} is packs = packs ∙ ap pack is ∙ by found
-  where
-    by : (found : Check) → pack (answer found worked-out) ≡ of-check found (figure worked-out)
-    by Accepted = accepts
-    by (Refused refusal) = refuses refusal
+  -- the same where it is packed by its own cases
+  pub answer-reads : {Answer : Type 0} (answer : Check → Figures → Answer) (pack : Answer → ℕ)
+      → pack (answer Accepted worked-out) ≡ accepted (figure worked-out)
+      → ((refusal : Refusal) → pack (answer (Refused refusal) worked-out) ≡ refused refusal)
+      → {given : Answer} {packed : ℕ} → given ≡ answer found worked-out → packed ≡ pack given → Reads packed verdict figure
+  answer-reads answer pack accepts refuses is packs = found-reads (packs ∙ ap pack is ∙ by found)
+    where
+      by : (found : Check) → pack (answer found worked-out) ≡ of-check found (figure worked-out)
+      by Accepted = accepts
+      by (Refused refusal) = refuses refusal

@@ -50,10 +50,10 @@ module _ (day : Day) (numbers : ℕ → ℕ) where
 module _ (file : List ℕ) (are : AreBytes file) (none : walked file .fault ≡ 0) where
   pub entries-are : entry-bytes (walked file .counts) file ≡ fields (walked file .counts) (col (tables file .numbers)) Entry
   entries-are =
-      ap (entry-bytes (walked file .counts)) (sym (file-again file are none)) ∙ written-entries (day-of file) (col (tables file .numbers))
+      ap (entry-bytes (walked file .counts)) (sym (file-again file none are)) ∙ written-entries (day-of file) (col (tables file .numbers))
 
   pub entries-inside : entries-start (walked file .counts) + run-size (walked file .counts) Entry ≤ length file
-  entries-inside = omega (arith, ap length (sym (file-again file are none)), length-file-of (day-of file) (col (tables file .numbers)))
+  entries-inside = omega (arith, ap length (sym (file-again file none are)), length-file-of (day-of file) (col (tables file .numbers)))
 
   pub file-parted : (side point : ℕ) → side ≤ 1 → 0 < point
       → Parted (walked file .counts) (col (tables file .numbers)) (entry-bytes (walked file .counts) file) side point

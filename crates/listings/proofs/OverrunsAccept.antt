@@ -33,8 +33,8 @@ use Rattle.daymeters.specs.Hours.{hours-from, megajoules}
 use Rattle.listings.specs.MeterDay.{shipper-day}
 use Rattle.listings.proofs.ReadSound.{counted}
 
--- megajoules have their figures
-same-figures : (list : List ℕ) → figures (megajoules list) ≡ list
+-- for callers: megajoules have their figures
+pub same-figures : (list : List ℕ) → figures (megajoules list) ≡ list
 same-figures [] = refl
 same-figures (x ∷ list) = ap (λ rest. x ∷ rest) (same-figures list)
 

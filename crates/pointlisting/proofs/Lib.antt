@@ -1,5 +1,6 @@
 pub mod Decided
-pub mod FileLists
 pub mod FirmMdqs
 pub mod PartRead
 pub mod Points
+pub mod FileLists
+pub mod Sizes

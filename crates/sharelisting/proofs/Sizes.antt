@@ -18,12 +18,9 @@ use Rattle.dayshares.specs.Promise.{Promise}
 use Rattle.dayshares.proofs.Promises.{promises}
 use Rattle.dayformat.specs.declared.day.Day.{Day}
 use Rattle.dayformat.specs.declared.form.Tag.the-variants.{Shipper}
-use Rattle.dayformat.specs.Format.{body, column-in}
+use Rattle.dayformat.specs.Format.{column-in}
 use Rattle.dayformat.specs.Layout.{count}
 use Rattle.dayformat.specs.Table.{joined}
-use Rattle.dayrows.specs.declared.Source.the-variants.{File}
-use Rattle.dayrows.specs.declared.Test.the-variants.{Bounds}
-use Rattle.dayrows.proofs.Within.{passes-bounded, within-bounds}
 use Rattle.dayruns.specs.Walk.{file-check}
 use Rattle.dayruns.proofs.Ending.{faultless}
 use Rattle.dayfile.specs.File.{tables, walked}
@@ -33,7 +30,7 @@ use Rattle.roundtrip.proofs.FileAgain.{day-number}
 use Rattle.dayvalues.specs.Shippers.{shipper-of}
 use Rattle.numbershares.specs.DayTable.{table-of}
 use Rattle.listings.proofs.Lines.{texts-most}
-use Rattle.listings.proofs.ReadSound.{read-sound}
+use Rattle.listings.proofs.ReadSound.{read-sound, sound-number}
 use Rattle.listings.proofs.SharesAccept.{shares-accept}
 use Rattle.sharelisting.specs.SharesText.{firm-word, left-word, head-line, shipper-line, shares-text, file-text}
 
@@ -69,10 +66,7 @@ module _ (day : Day) (numbers : List ℕ) (S : Sound day numbers) where
 
   shipper-small : (row : ℕ) → row < count (day .counts) Shipper → shipper-of (day .counts) (col numbers) row ≤ 65_535
   unfolding column-in
-  shipper-small row l =
-      within-bounds (column-in (body Shipper) 0) _
-      (passes-bounded File (day .counts) (col numbers) Shipper row (S .passes Shipper tt Bounds row l) .1 0 (omega arith))
-      .1
+  shipper-small row l = sound-number day numbers S Shipper tt row l 0 (omega arith)
 
   abbrev row-line : ℕ → List ℕ
   row-line row =

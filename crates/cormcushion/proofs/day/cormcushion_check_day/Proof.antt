@@ -20,9 +20,7 @@ returns : tie.Need-returns
 returns c =
     let read = c .before .before in
     let start = read .before .before .before in
-    c .of-reading .ensures
-    ∙ checked (start .args .file .now) _ _ (λ i. read .before .before .shared-slice-known .given i .fits)
-    (length-replicate {A = ℕ} 6_880 0) _ (read .read-day .ensures)
+    c .of-reading .ensures ∙ checked (start .args .file .now) _ _ (length-replicate {A = ℕ} 6_880 0) _ (read .read-day .ensures)
 
 pub cormcushion-check-day-spec : {M : Type 1} → statement M
 cormcushion-check-day-spec =
