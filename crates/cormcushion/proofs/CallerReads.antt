@@ -14,7 +14,6 @@ use Rattle.units.proofs.Checks.{both-accepted}
 use Rattle.units.proofs.Places.{PlacedTo}
 use Rattle.units.proofs.Verdicts.{checked}
 use Rattle.sharing.proofs.Levels.{level-is}
-use Rattle.lines.specs.declared.Listing.{Listing}
 use Rattle.lines.specs.Answer as lines
 use Rattle.lines.proofs.Decided.{listed-placed}
 use Rattle.rounds.specs.Answer as rounds

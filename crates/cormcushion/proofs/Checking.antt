@@ -1,5 +1,5 @@
 -- With room for every day the reader refuses a file by its own fault alone, so its packed answer is what the file's check gives.
-use mathlib.Core.Path.{_≡_}
+use mathlib.Core.Path.{_≡_, refl}
 use mathlib.Core.List.{List}
 use Prim.Native.Nat.{ℕ}
 use lib.ListN.{length}
@@ -21,4 +21,5 @@ module _ (file lent after : List ℕ) (room : length lent ≡ 6_880) where
   unfolding reader.check
   checked (Refused x) R = rw (file-refused file lent after room x R)
   checked (Read day) R =
-      rw (both-accepted (file-check (walked file)) _ (told file lent after day R .0) .0, told file lent after day R .1)
+      let is-read = told file lent after (Read day) R refl in
+      rw (both-accepted (file-check (walked file)) _ (is-read .0) .0, is-read .1)

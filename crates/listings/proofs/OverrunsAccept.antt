@@ -22,16 +22,15 @@ use Rattle.dayformat.specs.declared.form.Tag.the-variants.{Meter}
 use Rattle.dayformat.specs.Format.{_of_, name, gigajoules, hour, backhaul, body, column-in, form}
 use Rattle.dayformat.specs.Layout.{count, row-start}
 use Rattle.dayformat.proofs.Bodies.{among}
-use Rattle.dayrows.specs.declared.Source.the-variants.{File}
 use Rattle.dayrows.specs.declared.Test.the-variants as Test
 use Rattle.dayrows.specs.Test.{bounded, passes}
-use Rattle.dayrows.proofs.Within.{both, passes-bounded, within-bounds}
+use Rattle.dayrows.proofs.Within.{both}
 use Rattle.daywriter.proofs.Accepting.{Sound}
 use Rattle.dayvalues.specs.Row.{beyond-row, row-check}
 use Rattle.daymeters.specs.Meter.{meter-check, meter-at}
 use Rattle.daymeters.specs.Hours.{hours-from, megajoules}
 use Rattle.listings.specs.MeterDay.{shipper-day}
-use Rattle.listings.proofs.ReadSound.{counted}
+use Rattle.listings.proofs.ReadSound.{counted, sound-number}
 
 -- for callers: megajoules have their figures
 pub same-figures : (list : List ℕ) → figures (megajoules list) ≡ list
@@ -59,10 +58,7 @@ module _ (day : Day) (numbers : List ℕ) (S : Sound day numbers) (row : ℕ) (l
 
   -- ---- every number is within the bound of its kind
   most : (place : ℕ) → place < 68 → {kind : Column} → column-in (body Meter) place ≡ kind → figure place ≤ kind .high
-  most place few e =
-      rw e at
-      (within-bounds (column-in (body Meter) place) (figure place)
-      (passes-bounded File (day .counts) (col numbers) Meter row (S .passes Meter tt Test.Bounds row l) .1 place few) .1)
+  most place few e = rw e at (sound-number day numbers S Meter tt row l place few)
 
   -- P and M; a side's schedules; the backhaul metered; the hours of both days
   of-mdqs : (place : ℕ) → 1 ≤ place → place < 3 → figure place ≤ most-gigajoules

@@ -23,7 +23,7 @@ use Rattle.dayformat.specs.Layout.{count}
 use Rattle.dayrows.specs.declared.Source.the-variants.{File}
 use Rattle.dayrows.specs.declared.Test.the-variants as Test
 use Rattle.dayrows.specs.Test.{starved, passes}
-use Rattle.dayrows.proofs.Within.{passes-bounded, within-bounds}
+use Rattle.dayrows.proofs.Within.{passes-bounded}
 use Rattle.daywriter.proofs.Accepting.{Sound}
 use Rattle.dayvalues.specs.Column.{column}
 use Rattle.dayvalues.specs.Column as values
@@ -31,7 +31,7 @@ use Rattle.dayvalues.specs.Row.{beyond}
 use Rattle.numbershares.specs.DayTable.{table-of}
 use Rattle.numbershares.specs.Answer as numbershares
 use Rattle.numbershares.proofs.Tables.{table-long}
-use Rattle.listings.proofs.ReadSound.{counted}
+use Rattle.listings.proofs.ReadSound.{counted, sound-number}
 
 -- one of two that are not
 neither : (a b : Bool) → not (cond a true b) ≡ true → (a ≡ false) × (b ≡ false)
@@ -52,10 +52,7 @@ module _ (day : Day) (numbers : List ℕ) (S : Sound day numbers) where
   -- ---- 3: a column of gigajoules is within its bound
   bounded : (place : ℕ) → 0 < place → place < 6 → (row : ℕ) → row < many → figure place row ≤ most-gigajoules
   unfolding column-in
-  bounded place some few row l =
-      let kind = within-bounds (column-in (body Shipper) place) (figure place row)
-      (passes-bounded File (day .counts) (col numbers) Shipper row (S .passes Shipper tt Test.Bounds row l) .1 place few) .1
-      in omega (arith, kind, kind-is)
+  bounded place some few row l = omega (arith, sound-number day numbers S Shipper tt row l place few, kind-is)
     where
       kind-is : column-in (body Shipper) place .high ≡ most-gigajoules
       kind-is = rw (le-ltb place 1 some, lt-ltb (place - 1) 5 (omega (arith, some, few)))

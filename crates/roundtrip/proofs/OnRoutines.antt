@@ -1,6 +1,5 @@
 -- The round trips of the routines' answers: one of number 0 says what was accepted, and where the figures stand.
 use mathlib.Core.Path.{_≡_, refl, ap, sym, _∙_}
-use mathlib.Core.Bool.{Bool, true, false, true≢false}
 use mathlib.Core.List.{List}
 use Prim.Native.Nat.{ℕ, _+_, _≤_}
 use native.Mathlib.Omega.{arith}
@@ -10,8 +9,7 @@ use lib.ListN.{length, take, drop}
 use lib.Seq.{sets, sets-eq, take-at}
 use Rattle.columns.specs.Column.{col}
 use Rattle.bigendian.specs.Number.{AreBytes}
-use Rattle.units.specs.declared.refusal.Check.{Check}
-use Rattle.units.specs.declared.refusal.Check.the-variants.{Accepted, Refused}
+use Rattle.units.specs.declared.refusal.Check.the-variants.{Accepted}
 use Rattle.units.specs.Refusals.{keep}
 use Rattle.units.proofs.Checks.{both-accepted, kept, accepts-both, accepts-kept}
 use Rattle.dayformat.specs.declared.day.Day.{Day}
@@ -24,12 +22,9 @@ use Rattle.dayfile.specs.Answer.{day-of}
 use Rattle.dayfile.specs.Answer as reader
 use Rattle.dayfile.proofs.Decided.{reading-decided}
 use Rattle.dayruns.proofs.Ending.{faultless}
-use Rattle.daywriter.specs.declared.Written.{Written}
-use Rattle.daywriter.specs.declared.Written.the-variants as Written
 use Rattle.daywriter.specs.Written.{file-of}
 use Rattle.daywriter.specs.Acceptance.{sound}
 use Rattle.daywriter.specs.Acceptance as writer
-use Rattle.daywriter.specs.Answer as writer-answer
 use Rattle.daywriter.proofs.Accepting.{accepting}
 use Rattle.daywriter.proofs.Decided.{written-decided}
 use Rattle.daywriter.proofs.Sizes.{length-file-of}
