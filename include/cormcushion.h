@@ -7,7 +7,8 @@
  *
  * The answer is one number in fixed decimal digits: the last fifteen are a figure, the two before them 01's refusal number, those
  * before these a kind, which is 0 today. Where the number is 0 the call is accepted and the figure is its answer; else the call is
- * refused, the figure is the refusal's place, and everything lent is as it was. */
+ * refused, the figure is the refusal's place, and everything lent is as it was. Figures and places have room in their digits for
+ * every input: in a file of any length the place is at most 25,551. */
 #ifndef CORMCUSHION_H
 #define CORMCUSHION_H
 

@@ -7,7 +7,7 @@ use Rattle.units.specs.Verdict.{of-check, Decided}
 use Rattle.units.proofs.Checks.{both-accepted}
 use Rattle.units.proofs.Places.{PlacedTo, nowhere, _then-if_, plainly, at-one-of, counted, counted-list}
 use Rattle.units.proofs.Verdicts.{AllNumbered, none, _and_, kept-by, cleared-by, checked}
-use Rattle.daytable.specs.Table.{Table, rows}
+use Rattle.daytable.specs.Table.{Table}
 use Rattle.daytable.specs.Acceptance.{lengths, figures, check}
 use Rattle.daytable.proofs.Accepting.{Long, long, bounded}
 

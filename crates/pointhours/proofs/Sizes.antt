@@ -42,7 +42,8 @@ module _ (h : ℕ) (entitlements mdqs : List ℕ) (room : ℕ) where
 
 refused-most : (refusal : Refusal) → refusal .number ≤ 11 → refusal .place ≤ 63 → length (refused refusal) ≤ 15
 refused-most refusal n p =
-    line-within _ _ (le-refl 7) (figure-within 1 (refusal .number) _ (omega arith) (figure-within 1 (refusal .place) _ (omega arith) line-none))
+    line-within _ _ (le-refl 7)
+    (figure-within 1 (refusal .number) _ (omega arith) (figure-within 1 (refusal .place) _ (omega arith) line-none))
 
 -- ---- a line of shipper and share
 share-line-most : (shipper share : ℕ) → shipper ≤ 65_535 → share ≤ most-hour → length (line (decimals (shipper ∷ share ∷ []))) ≤ 17
@@ -64,7 +65,7 @@ module _ (capacity many : ℕ) (shipper entitlement mdq : ℕ → ℕ) (named : 
       omega (
         arith,
         texts-most (λ entry. line (decimals (shipper entry ∷ shares E M capacity entry ∷ []))) 17 many
-            (λ entry l. share-line-most (shipper entry) (shares E M capacity entry) (named entry l) (share-most R entry (rw length-listed l))),
+            (λ entry l. share-line-most (shipper entry) _ (named entry l) (share-most R entry (rw length-listed l))),
         R .rows .few,
         length-listed many entitlement,
       )

@@ -1,6 +1,6 @@
 -- Room for every listing of points: at most 32 points, each with its line and those of its hour.
 use mathlib.Core.Path.{_≡_}
-use mathlib.Core.Bool.{not}
+use mathlib.Core.Bool.{Bool, not}
 use mathlib.Core.List.{List}
 use Prim.Native.Nat.{ℕ, _-_, _+_, _≤_, _<_}
 use native.Mathlib.Nat.{le-refl}
@@ -47,8 +47,9 @@ module _ (day : Day) (numbers : List ℕ) (S : Sound day numbers) where
   unfolding column-in
   entry-shipper side point entry l =
       let from = first-row (day .counts) (col numbers) side point in
-      let rest = first-le (λ more. not (is-entry (day .counts) (col numbers) side point (from + more))) (count (day .counts) Entry - from) in
-      sound-number day numbers S Entry tt (from + entry) (omega (arith, l, rest)) 2 (omega arith)
+      let other : ℕ → Bool = λ more. not (is-entry (day .counts) (col numbers) side point (from + more)) in
+      let inside = first-le other (count (day .counts) Entry - from) in
+      sound-number day numbers S Entry tt (from + entry) (omega (arith, l, inside)) 2 (omega arith)
 
   entries-most : (side point capacity : ℕ) → length (entry-lines (day .counts) (col numbers) side point capacity) ≤ 1_088
   entries-most side point capacity = hour-most capacity _ _ _ _ (entry-shipper side point)
@@ -56,13 +57,15 @@ module _ (day : Day) (numbers : List ℕ) (S : Sound day numbers) where
   point-most : (row : ℕ) → row < count (day .counts) Point → length (point-lines (day .counts) (col numbers) row) ≤ 1_113
   unfolding column-in
   point-most row l =
-      let figure : ℕ → ℕ = number-at (day .counts) (col numbers) Point row in
+      let side = number-at (day .counts) (col numbers) Point row 0 in
+      let point = number-at (day .counts) (col numbers) Point row 1 in
+      let capacity = number-at (day .counts) (col numbers) Point row 2 in
+      let within = sound-number day numbers S Point tt row l in
       omega (
         arith,
-        length-append (point-line (figure 0) (figure 1) (figure 2)) (entry-lines (day .counts) (col numbers) (figure 0) (figure 1) (figure 2)),
-        point-line-most (figure 0) (figure 1) (figure 2) (sound-number day numbers S Point tt row l 0 (omega arith))
-            (sound-number day numbers S Point tt row l 1 (omega arith)) (sound-number day numbers S Point tt row l 2 (omega arith)),
-        entries-most (figure 0) (figure 1) (figure 2),
+        length-append (point-line side point capacity) (entry-lines (day .counts) (col numbers) side point capacity),
+        point-line-most side point capacity (within 0 (omega arith)) (within 1 (omega arith)) (within 2 (omega arith)),
+        entries-most side point capacity,
       )
 
   day-most : day .head .day ≤ 4_294_967_295 → length (points-text day (col numbers)) ≤ 65_536
