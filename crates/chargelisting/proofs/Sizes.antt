@@ -1,5 +1,5 @@
 -- Room for every listing of charges: each figure has as many digits as its bound at most, and there are at most 64 meters.
-use mathlib.Core.Path.{_≡_}
+use mathlib.Core.Path.{_≡_, refl}
 use mathlib.Core.List.{List, [], _∷_}
 use Prim.Native.Nat.{ℕ, _≤_, _<_}
 use native.Mathlib.Nat.{le-refl, le-trans, mul-le-mul}
@@ -13,10 +13,10 @@ use Rattle.units.specs.Bound.{most-chargeable, most-rate}
 use Rattle.units.proofs.Checks.{both-accepted, kept}
 use Rattle.lines.specs.Line.{line, decimals}
 use Rattle.lines.proofs.Sizes.{line-none, line-within, figure-within}
-use Rattle.overruns.specs.Day.{ShipperDay, day-answer, all-overruns}
+use Rattle.overruns.specs.Day.{ShipperDay, day-answer, verdict as day-verdict}
 use Rattle.overruns.proofs.Promises.{day-kept}
 use Rattle.tariff.specs.HalfUp.{half-up}
-use Rattle.tariff.specs.Charges.{cents, overrun-cents, overrun-charge}
+use Rattle.tariff.specs.Charges.{overrun-cents, overrun-charge, verdict as charge-verdict}
 use Rattle.dayformat.specs.declared.day.Day.{Day}
 use Rattle.dayformat.specs.declared.form.Tag.the-variants.{Meter}
 use Rattle.dayformat.specs.Format.{column-in}
@@ -64,8 +64,8 @@ line-most shipper hourly twelve-hourly receipt delivery greatest cents s h t r d
     (figure-within 10 greatest _ (omega arith) (figure-within 12 cents _ (omega arith) line-none))))))
 
 module _ (rate : Rate) (kept-rate : rate .0 ≤ most-rate) where
-  charge-small : (D : ShipperDay) → cents (overrun-charge rate (all-overruns (day-answer D) .greatest)) .0 ≤ most-cents
-  charge-small D = rw (charges-accept rate D kept-rate) (cents-most rate _ kept-rate (day-kept D .chargeable))
+  charge-small : (D : ShipperDay) → charge-verdict (overrun-charge rate (day-verdict (day-answer D) .figures .greatest)) .figures .0 ≤ most-cents
+  charge-small D = rw (charges-accept rate D kept-rate) (cents-most rate _ kept-rate (day-kept D refl .chargeable))
 
   module _ (day : Day) (numbers : List ℕ) (S : Sound day numbers) where
     shipper-small : (row : ℕ) → row < count (day .counts) Meter → meter-figures (day .counts) numbers row .shipper ≤ 65_535
@@ -78,7 +78,7 @@ module _ (rate : Rate) (kept-rate : rate .0 ≤ most-rate) where
     row-most : (row : ℕ) → row < count (day .counts) Meter → length (row-line row) ≤ 81
     row-most row l =
         let D = shipper-day (day .counts) numbers row in
-        let K = day-kept D in
+        let K = day-kept D refl in
         line-most _ _ _ _ _ _ _ (shipper-small row l)
         (le-trans (K .greatest .first) (K .chargeable))
         (le-trans (K .greatest .second) (K .chargeable))

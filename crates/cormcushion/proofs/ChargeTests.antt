@@ -94,7 +94,7 @@ module _ (rate : ℕ) (D : ShipperDay) where
   rate-kept e = leb-true _ _ (kept _ _ (both-accepted _ _ e .1))
 
   greatest-kept : day-check D ≡ Accepted → day-overruns D .greatest .0 ≤ most-chargeable
-  greatest-kept e = rw e at (day-kept D) .chargeable
+  greatest-kept e = rw e at (day-kept D refl) .chargeable
 
   pub charge-packs : of-rated (rate-check rate) (of-overruns rate (day-answer D)) ≡ of-check (charge-check rate D) (charge-cents rate D)
   unfolding _then_
