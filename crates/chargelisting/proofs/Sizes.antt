@@ -64,7 +64,8 @@ line-most shipper hourly twelve-hourly receipt delivery greatest cents s h t r d
     (figure-within 10 greatest _ (omega arith) (figure-within 12 cents _ (omega arith) line-none))))))
 
 module _ (rate : Rate) (kept-rate : rate .0 ≤ most-rate) where
-  charge-small : (D : ShipperDay) → charge-verdict (overrun-charge rate (day-verdict (day-answer D) .figures .greatest)) .figures .0 ≤ most-cents
+  charge-small : (D : ShipperDay)
+      → charge-verdict (overrun-charge rate (day-verdict (day-answer D) .figures .greatest)) .figures .0 ≤ most-cents
   charge-small D = rw (charges-accept rate D kept-rate) (cents-most rate _ kept-rate (day-kept D refl .chargeable))
 
   module _ (day : Day) (numbers : List ℕ) (S : Sound day numbers) where

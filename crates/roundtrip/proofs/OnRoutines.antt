@@ -73,9 +73,10 @@ module _ (file lent numbers : List ℕ) (reading : Reading) (R : reader.Answered
 pub file-again : File-again
 unfolding writer.check
 file-again file lent numbers block after reading day written are R zero is A room =
-    let taken : take (numbers-in (day .counts)) numbers ≡ tables file .numbers = rw is at (taken-numbers file lent numbers reading R zero are) in
-    let W = round-trips .file-again file day (tables file .numbers) are (rw is at (reads-day file lent numbers reading R zero)) in
-    let accepted : writer.check day (take (numbers-in (day .counts)) numbers) (length block) ≡ Accepted =
+    let taken : take (numbers-in (day .counts)) numbers ≡ tables file .numbers =
+    rw is at (taken-numbers file lent numbers reading R zero are)
+    in let W = round-trips .file-again file day (tables file .numbers) are (rw is at (reads-day file lent numbers reading R zero))
+    in let accepted : writer.check day (take (numbers-in (day .counts)) numbers) (length block) ≡ Accepted =
     rw taken (accepts-both (W .accepted) (accepts-kept 7 (le-leb _ _ room)))
     in let long : file-size (day .counts) ≡ length file = sym (length-file-of day (col (tables file .numbers))) ∙ ap length (W .file-is)
     in let written-told = written-decided A .accepted accepted
