@@ -2,10 +2,9 @@
 
 import unittest
 
-from filecases import BYTES, NUMBERS, Bytes, Halves, cases_of, room_of, words_of
+from filecases import BYTES, NUMBERS, Bytes, Halves, room_of
+from support import CasesTest
 from vectors import PROGRAMS, input_of
-
-ROUTINES = PROGRAMS[1].routines
 
 # What the program `filevectors` has room for.
 MOST_WORDS = 16_384
@@ -24,23 +23,9 @@ REFUSALS = {
 }
 
 
-class FileVectors(unittest.TestCase):
-    @classmethod
-    def setUpClass(cls):
-        """Each routine's cases with their numbers."""
-        cls.cases = [
-            (routine, [(case, words_of(routine, case)[0]) for case in cases_of(routine)])
-            for routine in ROUTINES
-        ]
-
-    def test_numbers(self):
-        self.assertEqual(list(REFUSALS), [routine.name for routine in ROUTINES])
-        for routine, cases in self.cases:
-            self.assertEqual(REFUSALS[routine.name], {number for _, number in cases}, routine.name)
-
-    def test_same_seed(self):
-        for routine, cases in self.cases:
-            self.assertEqual([case for case, _ in cases], cases_of(routine), routine.name)
+class FileVectors(CasesTest, unittest.TestCase):
+    program = PROGRAMS[1]
+    refusals = REFUSALS
 
     def test_size(self):
         """No case is too long for the program, and no block too large."""

@@ -4,11 +4,10 @@ them."""
 import unittest
 
 from days import full_day, make_day
-from filecases import BYTES, NUMBERS, cases_of
-from valuecases import InMemory, lent_in, words_of
+from filecases import BYTES, NUMBERS
+from support import CasesTest
+from valuecases import InMemory, lent_in
 from vectors import PROGRAMS, input_of
-
-ROUTINES = PROGRAMS[2].routines
 
 # What the program `valuevectors` has room for.
 MOST_WORDS = 16_384
@@ -44,23 +43,9 @@ def spare_of(routine, case):
     return [room - len(given) for (_, room), given in zip(lent_in(routine, case), answers)]
 
 
-class ValueVectors(unittest.TestCase):
-    @classmethod
-    def setUpClass(cls):
-        """Each routine's cases with their numbers."""
-        cls.cases = [
-            (routine, [(case, words_of(routine, case)[0]) for case in cases_of(routine)])
-            for routine in ROUTINES
-        ]
-
-    def test_numbers(self):
-        self.assertEqual(list(REFUSALS), [routine.name for routine in ROUTINES])
-        for routine, cases in self.cases:
-            self.assertEqual(REFUSALS[routine.name], {number for _, number in cases}, routine.name)
-
-    def test_same_seed(self):
-        for routine, cases in self.cases:
-            self.assertEqual([case for case, _ in cases], cases_of(routine), routine.name)
+class ValueVectors(CasesTest, unittest.TestCase):
+    program = PROGRAMS[2]
+    refusals = REFUSALS
 
     def test_size(self):
         """No case is too long for the program, no list and no room too large."""
