@@ -14,9 +14,10 @@ use Rattle.dayformat.specs.Format.{column-in, widths}
 use Rattle.dayformat.specs.Layout.{no-rows, with-count}
 use Rattle.dayformat.specs.Table.{joined}
 use Rattle.dayrows.specs.declared.Source.the-variants as Source
+use Rattle.dayfields.specs.Field.{with-row, Taken}
 use Rattle.dayruns.specs.declared.run.Run.{Run}
 use Rattle.dayruns.specs.declared.walk.Walk.{Walk}
-use Rattle.dayruns.specs.Run.{place-of, rows-of, field-fault, with-row, laid, Taken, Ran}
+use Rattle.dayruns.specs.Run.{place-of, rows-of, field-fault, laid, Ran}
 use Rattle.dayruns.specs.Walk.{walk-after}
 use Rattle.dayfile.specs.File.{fields-from, head-fields, head-fault, headed, Tabled}
 use Rattle.dayruns.proofs.Fronts.{front-more, front-none}

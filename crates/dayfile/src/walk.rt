@@ -1,10 +1,10 @@
 // A file walked through field by field.
+use dayfields::take_field;
 use dayformat::Counts;
 use dayformat::Tag;
 use dayrows::Source;
 use dayruns::Walk;
 use dayruns::run_fields;
-use dayruns::take_field;
 ghost use mathlib.Core.Path.{_≡_};
 ghost use lib.ListN.{replicate};
 ghost use Rattle.dayfile.specs.File.{headed, most-numbers, Tabled, Walked};

@@ -1,8 +1,8 @@
 -- What is enough for a row to be sound.
 use mathlib.Core.Path.{_≡_, ap, _∙_}
-use mathlib.Core.Bool.{true, false}
+use mathlib.Core.Bool.{true}
 use Prim.Native.Nat.{ℕ, _+_, _*_, _<_}
-use borrow.Author.Tests.{lt-ltb, eq-eqb}
+use borrow.Author.Tests.{eq-eqb}
 use native.Mathlib.Decide.{decLt}
 use native.Mathlib.Omega.{arith}
 use Rattle.dayformat.specs.declared.form.Tag.{Tag}
@@ -10,11 +10,7 @@ use Rattle.dayformat.specs.declared.form.Tag.the-variants.{Shipper, Point}
 use Rattle.dayformat.specs.declared.layout.Counts.{Counts}
 use Rattle.dayformat.specs.Format.{body, column-in, form}
 use Rattle.dayformat.specs.Layout.{count, table-start, row-start}
-use Rattle.dayrows.specs.declared.Source.the-variants.{File}
-use Rattle.dayrows.specs.declared.Test.{Test}
-use Rattle.dayrows.specs.declared.Test.the-variants.{Bounds, Key, Mdq}
-use Rattle.dayrows.specs.Test.{within, bounded, difference, rises, lists, named, starved, passes, fault}
-use Rattle.dayrows.proofs.Faults.{none-fault}
+use Rattle.dayrows.specs.Test.{within, bounded, difference, lists}
 use Rattle.dayrows.proofs.Searches.{witnessed, unmarked}
 
 -- each of its numbers is within its bounds
@@ -43,18 +39,3 @@ module _ (counts : Counts) (f : ℕ → ℕ) where
       by : (place : ℕ) → place < 2 → Dec (place < 1) → f (table-start counts Point + row * 3 + place) ≡ f (at + place)
       by place h (yes k) = let here : place ≡ 0 = omega (arith, k) in rw here (ap f (omega arith) ∙ side ∙ ap f (omega arith))
       by place h (no k) = let here : place ≡ 1 = omega (arith, h, k) in rw here name
-
-  module _ (tag : Tag) (row : ℕ) where
-    abbrev at : ℕ
-    at = row-start counts tag row
-
-    -- a row of a file
-    pub sound-row : row < form tag .most → bounded f tag at ≡ true → rises counts f tag row ≡ true → named counts f tag at ≡ true
-        → starved f tag at ≡ false → fault File counts f tag row ≡ 0
-    unfolding passes
-    sound-row few inside risen known fed = none-fault File counts f tag row passed
-      where
-        passed : (test : Test) → passes test File counts f tag row ≡ true
-        passed Bounds = rw (lt-ltb _ _ few, inside)
-        passed Key = rw (risen, known)
-        passed Mdq = rw fed

@@ -32,12 +32,17 @@ module _ (column : Column) (number : ℕ) where
   pub within-bounds : within column number ≡ true → (column .low ≤ number) × (number ≤ column .high)
   within-bounds e = let parts = both _ _ e in (leb-true _ _ (parts .0), leb-true _ _ (parts .1))
 
+-- each number of a row that keeps its bounds does
+pub bounded-each : (f : ℕ → ℕ) (tag : Tag) (at : ℕ) → bounded f tag at ≡ true
+    → (place : ℕ) → place < form tag .columns → within (column-in (body tag) place) (f (at + place)) ≡ true
+unfolding bounded
+bounded-each f tag at e place l = not-false _ (first-passed _ _ (leb-true _ _ e) place l)
+
 -- the row is not one too many, and each of its numbers is within its bounds
 pub passes-bounded : (source : Source) (c : Counts) (f : ℕ → ℕ) (tag : Tag) (row : ℕ) → passes Bounds source c f tag row ≡ true
     → (row < form tag .most)
     × ((place : ℕ) → place < form tag .columns → within (column-in (body tag) place) (f (row-start c tag row + place)) ≡ true)
-unfolding passes bounded
+unfolding passes
 passes-bounded source c f tag row e =
     let few = both _ _ e in
-    let inside = leb-true _ _ (both _ _ (few .1) .0) in
-    (ltb-true _ _ (few .0), λ place l. not-false _ (first-passed _ _ inside place l))
+    (ltb-true _ _ (few .0), bounded-each f tag (row-start c tag row) (both _ _ (few .1) .0))

@@ -23,9 +23,9 @@ use Rattle.dayformat.specs.Format.{field-size, form}
 use Rattle.dayrows.specs.declared.Source.{Source}
 use Rattle.dayrows.specs.declared.Test.the-variants.{Bounds, Key, Mdq}
 use Rattle.dayrows.specs.Test.{passes, fault}
+use Rattle.dayfields.specs.Field.{broken}
 use Rattle.dayruns.specs.declared.walk.Walk.{Walk}
-use Rattle.dayruns.specs.Field.{begun, broken}
-use Rattle.dayruns.specs.Run.{Fields, place-of, field-fault, run-rows, run-of}
+use Rattle.dayruns.specs.Run.{Fields, place-of, field-fault, begun, run-rows, run-of}
 use Rattle.dayruns.specs.Walk.{ended, file-check}
 
 -- what the refusal of a walk has

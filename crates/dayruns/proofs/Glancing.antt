@@ -1,32 +1,31 @@
 -- A row that is laid again is laid as it was, so a field that is not seen to be sound can be taken afresh.
 use mathlib.Core.Path.{_≡_, refl, ap, ap₂, sym, _∙_}
-use mathlib.Core.Bool.{Bool, true, false, true≢false}
+use mathlib.Core.Bool.{Bool, true, false, cond, true≢false}
 use mathlib.Core.List.{List, _++_, append-assoc}
-use Prim.Native.Nat.{ℕ, _+_, _≤_, _<_}
+use Prim.Native.Nat.{ℕ, _+_, _≤_}
 use native.Mathlib.Omega.{arith}
 use borrow.Author.Tests.{eq-eqb}
-use lib.Dec.{eqb}
 use lib.ListN.{length, take, drop, length-append}
 use lib.Seq.{sets, sets-eq, length-sets, length-take-le, take-at, drop-at}
 use Rattle.columns.specs.Column.{col}
 use Rattle.columns.proofs.Lists.{length-listed}
 use Rattle.bigendian.specs.Row.{decode}
 use Rattle.bigendian.proofs.Rows.{length-decode}
-use Rattle.daytable.specs.Acceptance.{idle}
 use Rattle.dayformat.specs.declared.form.Tag.{Tag}
-use Rattle.dayformat.specs.declared.form.Tag.the-variants.{Head, Shipper, Point, Entry, Meter}
 use Rattle.dayformat.specs.declared.layout.Counts.{Counts}
 use Rattle.dayformat.specs.Format.{widths, form}
 use Rattle.dayformat.specs.Layout.{row-start}
 use Rattle.dayrows.specs.declared.Source.{Source}
 use Rattle.dayrows.specs.declared.Source.the-variants.{File}
-use Rattle.dayrows.specs.Test.{bounded, rises, lists, named, starved, fault}
-use Rattle.dayrows.proofs.Sound.{sound-row}
-use Rattle.dayruns.specs.Field.{broken}
-use Rattle.dayruns.specs.Run.{with-row, Taken}
-use Rattle.dayruns.specs.Kind.{BodyRead}
-use Rattle.dayruns.specs.Glance.{Ready, Glanced}
-use Rattle.dayruns.proofs.Taking.{taken-whole}
+use Rattle.dayrows.specs.declared.Test.the-variants.{Bounds, Key, Mdq}
+use Rattle.dayrows.specs.Test.{rises, named, passes, fault}
+use Rattle.dayrows.proofs.Faults.{none-fault}
+use Rattle.dayrows.proofs.Within.{both}
+use Rattle.dayfields.specs.Field.{broken, with-row, Taken}
+use Rattle.dayfields.proofs.Taking.{taken-whole}
+use Rattle.daybodies.specs.Body.{ready, orderly, BodyRead}
+use Rattle.daybodies.proofs.Bodies.{is-ready, kept-row}
+use Rattle.dayruns.specs.Glance.{Glanced}
 
 -- ---- numbers laid twice
 module _ (vs l : List ℕ) (i : ℕ) (room : i + length vs ≤ length l) where
@@ -49,63 +48,71 @@ module _ (vs l : List ℕ) (i : ℕ) (room : i + length vs ≤ length l) where
       ∙ ap₂ (λ start rest. start ++ vs ++ rest) start-twice rest-twice
       ∙ sym (sets-eq vs l i room)
 
--- ---- what a tag asks of a row besides its bounds and its order
-abbrev pub Needed : Counts → (ℕ → ℕ) → ℕ → Tag → Type 0
-Needed counts f at Head = Unit {0}
-Needed counts f at Shipper = (idle (f (at + 1)) (f (at + 3)) ≡ false) × (idle (f (at + 2)) (f (at + 4)) ≡ false)
-Needed counts f at Point = Unit {0}
-Needed counts f at Entry = (lists counts f Point at ≡ true) × (lists counts f Shipper (at + 2) ≡ true)
-Needed counts f at Meter = lists counts f Shipper at ≡ true
+-- ---- a row that passes every test but that of its names is sound where they are listed
+keyed : (counts : Counts) (f : ℕ → ℕ) (tag : Tag) (row : ℕ) → rises counts f tag row ≡ true
+    → named counts f tag (row-start counts tag row) ≡ true → passes Key File counts f tag row ≡ true
+unfolding passes
+keyed counts f tag row risen known = rw (risen, known)
 
-fault-needed : (counts : Counts) (f : ℕ → ℕ) (tag : Tag) (row : ℕ) → row < form tag .most
-    → bounded f tag (row-start counts tag row) ≡ true → rises counts f tag row ≡ true → Needed counts f (row-start counts tag row) tag
-    → fault File counts f tag row ≡ 0
-unfolding named starved
-fault-needed counts f Head row few inside risen N = sound-row counts f Head row few inside risen refl refl
-fault-needed counts f Shipper row few inside risen N = sound-row counts f Shipper row few inside risen refl (rw (N .0, N .1))
-fault-needed counts f Point row few inside risen N = sound-row counts f Point row few inside risen refl refl
-fault-needed counts f Entry row few inside risen N = sound-row counts f Entry row few inside risen (rw (N .0, N .1)) refl
-fault-needed counts f Meter row few inside risen N = sound-row counts f Meter row few inside risen N refl
+sound-named : (counts : Counts) (f : ℕ → ℕ) (tag : Tag) (row : ℕ) → orderly counts f tag row ≡ true
+    → named counts f tag (row-start counts tag row) ≡ true → fault File counts f tag row ≡ 0
+unfolding orderly
+sound-named counts f tag row e known =
+    let bounds = both _ _ e in
+    let rest = both _ _ (bounds .1) in
+    none-fault File counts f tag row
+    (λ test.
+    elim test [ Bounds ↦ bounds .0 | Key ↦ keyed counts f tag row (rest .0) known | Mdq ↦ rest .1 ])
 
 -- ---- a glance
 module _ (source : Source) (counts : Counts) (file : List ℕ) (tag : Tag) (at row : ℕ) (lent : List ℕ) where
   -- nothing done
-  pub unready : Glanced source counts file tag at row lent lent false
-  unready = record { sure = λ no. absurd (true≢false (sym no)); again = λ T. T }
+  pub unseen : Glanced source counts file tag at row lent lent false
+  unseen = record { sure = λ no. absurd (true≢false (sym no)); again = λ T. T }
 
-  -- a row laid
-  module _ (R : Ready source counts file tag at row lent) {to : ℕ} (here : to ≡ row-start counts tag row) {after : List ℕ} {kept : Bool}
-      (B : BodyRead file tag (at + 3) lent to after kept) where
-    lays : after ≡ with-row counts file tag at row lent
-    lays = rw (← here) (B .lays)
+  -- a row laid again
+  module _ (on : ready counts file tag at row (length lent) ≡ true) where
+    whole : broken file tag at ≡ 0
+    whole = is-ready counts file tag at row (length lent) on .whole
 
-    on : eqb (broken file tag at) 0 ≡ true
-    on = eq-eqb (broken file tag at) 0 (R .whole)
-
-    same : with-row counts file tag at row after ≡ with-row counts file tag at row lent
+    same : with-row counts file tag at row (with-row counts file tag at row lent) ≡ with-row counts file tag at row lent
     same =
         let numbers = decode (widths tag) (drop (at + 3) file) in
         let long : length numbers ≡ form tag .columns = length-decode (widths tag) _ ∙ length-listed _ _ in
-        rw lays (sets-twice numbers lent (row-start counts tag row) (omega (arith, R .room, long)))
+        let fits = is-ready counts file tag at row (length lent) on .fits in
+        sets-twice numbers lent (row-start counts tag row) (omega (arith, fits, long))
 
-    afresh : {last : List ℕ} {number : ℕ} → Taken source counts file tag at row after last number
+    afresh : {last : List ℕ} {number : ℕ} → Taken source counts file tag at row (with-row counts file tag at row lent) last number
         → Taken source counts file tag at row lent last number
     afresh {last} {number} T =
-        let there : last ≡ with-row counts file tag at row lent = T .lays ∙ rw (on, same) in
-        taken-whole source counts file tag at row lent (sym (R .whole)) refl there (T .answers ∙ rw (on, same, there))
+        let here = eq-eqb (broken file tag at) 0 whole in
+        let there : last ≡ with-row counts file tag at row lent = T .lays ∙ rw (here, same) in
+        taken-whole source counts file tag at row lent (sym whole) refl there (T .answers ∙ rw (here, same, there))
 
-    pub unseen : Glanced source counts file tag at row lent after false
-    unseen = record { sure = λ no. absurd (true≢false (sym no)); again = afresh }
+  module _ {after : List ℕ} {kept : Bool} (B : BodyRead counts file tag at row lent after kept) where
+    -- a field that is ready is laid, any other leaves the numbers alone
+    again : {last : List ℕ} {number : ℕ} → Taken source counts file tag at row after last number
+        → Taken source counts file tag at row lent last number
+    again T = by (ready counts file tag at row (length lent)) refl (rw (B .lays) at T)
+      where
+        by : {last : List ℕ} {number : ℕ} (on : Bool) → ready counts file tag at row (length lent) ≡ on
+            → Taken source counts file tag at row (cond on (with-row counts file tag at row lent) lent) last number
+            → Taken source counts file tag at row lent last number
+        by true on T = afresh on T
+        by false off T = T
 
-    pub seen : {sound : Bool} → kept ≡ true
-        → (sound ≡ true → (row < form tag .most) × (rises counts (col after) tag row ≡ true) × Needed counts (col after) to tag)
+    pub unsure : Glanced source counts file tag at row lent after false
+    unsure = record { sure = λ no. absurd (true≢false (sym no)); again = again }
+
+    pub glanced : {sound : Bool}
+        → (sound ≡ true → (kept ≡ true) × (source ≡ File) × (named counts (col after) tag (row-start counts tag row) ≡ true))
         → Glanced source counts file tag at row lent after sound
-    seen inside tells =
-        record {
-          sure = λ yes.
-              let passed = tells yes in
-              let bounds : bounded (col after) tag (row-start counts tag row) ≡ true = rw (← here) (B .keeps inside) in
-              let none = fault-needed counts (col after) tag row (passed .0) bounds (passed .1) (rw (← here) (passed .2)) in
-              taken-whole source counts file tag at row lent (sym (R .whole)) refl lays (rw (R .of-file) (sym none));
-          again = afresh;
-        }
+    glanced tells = record { sure = λ yes. sure (tells yes); again = again }
+      where
+        sure : (kept ≡ true) × (source ≡ File) × (named counts (col after) tag (row-start counts tag row) ≡ true)
+            → Taken source counts file tag at row lent after 0
+        sure seen =
+            let asked = kept-row B (seen .0) in
+            let there : after ≡ with-row counts file tag at row lent = B .lays ∙ rw (asked .0) in
+            let none = sound-named counts (col after) tag row (rw there (asked .1)) (seen .2) in
+            taken-whole source counts file tag at row lent (sym (whole (asked .0))) refl there (rw (seen .1) (sym none))

@@ -1,13 +1,7 @@
-pub mod BodyReading
-pub mod Breaking
 pub mod Decided
 pub mod Determined
 pub mod Ending
-pub mod Following
 pub mod Fronts
 pub mod Glancing
-pub mod KindReading
-pub mod RowReading
 pub mod Running
 pub mod Runs
-pub mod Taking

@@ -7,7 +7,7 @@ use Prim.Native.Nat.{ℕ, suc, _+_, _*_, _≤_, _<_}
 use native.Mathlib.Nat.{eq-or-lt-of-le}
 use native.Mathlib.Numerals.{add-one}
 use native.Mathlib.Omega.{arith}
-use borrow.Author.Tests.{eq-eqb, ne-eqb, eqb-true, eqb-false}
+use borrow.Author.Tests.{eq-eqb, ne-eqb, ltb-true, eqb-true, eqb-false}
 use lib.Dec.{eqb}
 use lib.ListN.{length}
 use lib.Seq.{sets, length-sets}
@@ -17,6 +17,7 @@ use Rattle.columns.proofs.Firsts.{Searched, searched-none, searched-more, first
 use Rattle.columns.proofs.Firsts as firsts
 use Rattle.columns.proofs.Lists.{sets-append, length-listed}
 use Rattle.bigendian.proofs.Rows.{length-decode}
+use Rattle.dayformat.specs.declared.form.Tag.{Tag}
 use Rattle.dayformat.specs.Format.{widths, field-size, form}
 use Rattle.dayformat.specs.Layout.{table-start}
 use Rattle.dayformat.specs.Table.{joined}
@@ -24,11 +25,16 @@ use Rattle.dayformat.proofs.Tables.{length-joined}
 use Rattle.dayrows.specs.declared.Test.the-variants as Test
 use Rattle.dayrows.specs.Test.{fault}
 use Rattle.dayrows.proofs.Faults.{fault-none}
-use Rattle.dayrows.proofs.Within.{passes-bounded}
+use Rattle.dayrows.proofs.Within.{both, passes-bounded}
+use Rattle.dayfields.specs.Field.{broken, with-row, Taken}
+use Rattle.dayfields.proofs.Breaking.{broken-none}
 use Rattle.dayruns.specs.declared.run.Run.{Run}
-use Rattle.dayruns.specs.Field.{begun, broken}
-use Rattle.dayruns.specs.Run.{Fields, place-of, row-of, rows-of, field-fault, stops, with-row, Taken, laid, taken-rows, run-rows, Ran}
-use Rattle.dayruns.proofs.Breaking.{broken-none}
+use Rattle.dayruns.specs.Run.{Fields, place-of, row-of, rows-of, field-fault, begun, stops, laid, taken-rows, run-rows, Ran}
+
+-- where a field begins there is a byte
+pub begun-inside : (file : List ℕ) (tag : Tag) (at : ℕ) → begun file tag at ≡ true → at < length file
+unfolding begun
+begun-inside file tag at e = ltb-true _ _ (both _ _ e .0)
 
 -- a row has as many numbers as its tag's body
 pub length-row : (F : Fields) (row : ℕ) → length (row-of F row) ≡ form (F .tag) .columns

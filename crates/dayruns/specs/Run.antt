@@ -1,10 +1,10 @@
 -- 01, "The day file" and "Refusal numbers": the fields of one tag, one after another.
 use mathlib.Core.Path.{_≡_}
-use mathlib.Core.Bool.{Bool, true, cond, not}
+use mathlib.Core.Bool.{Bool, true, false, cond, not}
 use mathlib.Core.List.{List}
 use Prim.Native.Nat.{ℕ, suc, _+_, _*_}
-use lib.Dec.{eqb}
-use lib.ListN.{drop}
+use lib.Dec.{ltb, eqb}
+use lib.ListN.{length, drop}
 use lib.Seq.{sets}
 use Rattle.columns.specs.Column.{col}
 use Rattle.columns.specs.First.{first}
@@ -12,12 +12,12 @@ use Rattle.bigendian.specs.Row.{decode}
 use Rattle.dayformat.specs.declared.form.Tag.{Tag}
 use Rattle.dayformat.specs.declared.layout.Counts.{Counts}
 use Rattle.dayformat.specs.Format.{widths, field-size, form}
-use Rattle.dayformat.specs.Layout.{table-start, row-start}
+use Rattle.dayformat.specs.Layout.{table-start}
 use Rattle.dayformat.specs.Table.{joined}
 use Rattle.dayrows.specs.declared.Source.{Source}
 use Rattle.dayrows.specs.Test.{fault}
+use Rattle.dayfields.specs.Field.{broken}
 use Rattle.dayruns.specs.declared.run.Run.{Run}
-use Rattle.dayruns.specs.Field.{begun, broken}
 
 -- the fields of a tag from a byte of a file on, and what their rows are tested against
 pub record Fields : Type 0 where
@@ -44,6 +44,10 @@ field-fault F read row =
     (fault (F .source) (F .counts) (read (suc row)) (F .tag) row)
     (broken (F .file) (F .tag) (place-of F row))
 
+-- the next byte is the tag's
+unfoldable pub begun : List ℕ → Tag → ℕ → Bool
+begun file tag at = cond (ltb at (length file)) (eqb (col file at) (form tag .byte)) false
+
 -- the run ends before a field that is of another tag or faulty
 unfoldable pub stops : Fields → (ℕ → ℕ → ℕ) → ℕ → Bool
 stops F read row = cond (begun (F .file) (F .tag) (place-of F row)) (not (eqb (field-fault F read row) 0)) true
@@ -67,19 +71,7 @@ taken-rows F read =
     let rows = run-rows F read in
     cond (begun (F .file) (F .tag) (place-of F rows)) (cond (eqb (broken (F .file) (F .tag) (place-of F rows)) 0) (suc rows) rows) rows
 
--- ---- the statements of the routines that take fields: their rows go into a lent list, which they are tested in
-abbrev pub with-row : Counts → List ℕ → Tag → ℕ → ℕ → List ℕ → List ℕ
-with-row counts file tag at row lent = sets lent (row-start counts tag row) (decode (widths tag) (drop (at + 3) file))
-
-pub record Taken (source : Source) (counts : Counts) (file : List ℕ) (tag : Tag) (at row : ℕ) (lent after : List ℕ) (number : ℕ) : Type 0
-  where
-    pub answers :
-        number
-        ≡ cond (eqb (broken file tag at) 0)
-        (fault source counts (col (with-row counts file tag at row lent)) tag row)
-        (broken file tag at)
-    pub lays : after ≡ cond (eqb (broken file tag at) 0) (with-row counts file tag at row lent) lent
-
+-- ---- the statement of `run_fields`: the rows go into a lent list, which they are tested in
 abbrev pub laid : Fields → List ℕ → ℕ → List ℕ
 laid F lent many = sets lent (table-start (F .counts) (F .tag)) (rows-of F many)
 

@@ -1,14 +1,9 @@
 // The fields of one tag in a file or in a list of entries, taken one after another and tested, opened.
-mod body;
-mod field;
 mod glance;
-mod key;
-mod kind;
 mod names;
 mod run;
 mod walk;
 
 pub use run::Run;
 pub use run::run_fields;
-pub use run::take_field;
 pub use walk::Walk;

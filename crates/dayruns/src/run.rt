@@ -1,17 +1,15 @@
 // The fields of one tag, one after another.
-use crate::field::begins;
-use crate::field::breaks;
-use crate::field::read_row;
 use crate::glance::glance_at;
 use crate::names::NOWHERE;
 use crate::names::Near;
+use dayfields::take_field;
 use dayformat::Counts;
 use dayformat::Tag;
 use dayformat::form_of;
-use dayformat::row_place;
 use dayrows::Source;
-use dayrows::row_fault;
-ghost use Rattle.dayruns.specs.Run.{Taken, Ran};
+ghost use mathlib.Core.Path.{_≡_};
+ghost use Rattle.dayfields.specs.Field.{Taken};
+ghost use Rattle.dayruns.specs.Run.{begun, Ran};
 
 // How many sound fields there are, where they end, and the number of the fault there, 0 for none.
 pub struct Run {
@@ -26,30 +24,17 @@ struct Step {
     near: Near,
 }
 
-// The number that refuses the field at a byte, 0 for none. The row of a field that is whole goes into the numbers.
-pub fn take_field(
-    source: Source,
-    counts: Counts,
-    file: &[u8],
-    tag: Tag,
-    at: usize,
-    row: u32,
-    numbers: &mut [usize],
-) -> u8
-    ensures { λ r. ⌜ Taken source counts (now (file .entry)) tag at row (now (numbers .entry)) (now (numbers .exit)) r ⌝ }
+// Whether the next byte is the tag's.
+fn begins(file: &[u8], tag: Tag, at: usize) -> bool
+    ensures { λ r. ⌜ r ≡ begun (now (file .entry)) tag at ⌝ }
 {
-    if file.len() < at {
-        return 1;
+    if at < file.len() {
+        return file[at] == form_of(tag).byte;
     }
-    let broken = breaks(file, tag, at);
-    if broken != 0 {
-        return broken;
-    }
-    read_row(file, tag, at + 3, numbers, row_place(counts, tag, row));
-    row_fault(source, counts, numbers, tag, row)
+    false
 }
 
-// The same, at a glance where the field is seen to be sound, with its names looked for from some rows on.
+// The field at a byte, at a glance where it is seen to be sound, with its names looked for from some rows on.
 fn take_near(
     source: Source,
     counts: Counts,

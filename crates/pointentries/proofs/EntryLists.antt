@@ -14,13 +14,13 @@ use Rattle.units.specs.Refusals.{_then_, keep}
 use Rattle.units.proofs.Checks.{both-accepted}
 use Rattle.dayformat.specs.declared.form.Tag.the-variants as Tag
 use Rattle.dayformat.specs.Format.{field-size, column-in}
+use Rattle.dayfields.proofs.Breaking.{broken-none}
 use Rattle.dayruns.specs.declared.run.Run.{Run}
 use Rattle.dayruns.specs.declared.walk.Walk.{Walk}
 use Rattle.dayruns.specs.Run.{Fields, place-of, rows-of, field-fault, stops, run-of, laid, Ran}
 use Rattle.dayruns.specs.Walk.{walk-after, ended}
 use Rattle.dayruns.specs.Walk.{file-check}
 use Rattle.pointentries.specs.Entries.{entries, entry-run, entry-rows, unread, entry-walk, list-check, most-entry-numbers, EntriesWalked, ListChecked}
-use Rattle.dayruns.proofs.Breaking.{broken-none}
 use Rattle.dayruns.proofs.Running.{field-none, goes-sound, ran-sound}
 use Rattle.dayruns.proofs.Runs.{run-same, run-front}
 use Rattle.dayruns.proofs.Fronts.{front-none}

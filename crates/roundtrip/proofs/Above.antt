@@ -11,8 +11,8 @@ use Rattle.columns.specs.Column.{col}
 use Rattle.dayformat.specs.declared.form.Tag.{Tag}
 use Rattle.dayformat.specs.Format.{form}
 use Rattle.dayformat.specs.Table.{joined, field}
-use Rattle.dayruns.specs.Field.{begun}
-use Rattle.dayruns.proofs.Breaking.{Whole}
+use Rattle.dayfields.proofs.Breaking.{Whole}
+use Rattle.dayruns.specs.Run.{begun}
 
 abbrev pub Above : ℕ → List ℕ → Type 0
 Above byte [] = Unit {0}

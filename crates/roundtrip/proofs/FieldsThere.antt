@@ -15,7 +15,7 @@ use Rattle.dayformat.specs.declared.form.Tag.{Tag}
 use Rattle.dayformat.specs.Format.{widths, field-size, form}
 use Rattle.dayformat.specs.Table.{field}
 use Rattle.dayformat.proofs.Small.{small}
-use Rattle.dayruns.proofs.Breaking.{Whole}
+use Rattle.dayfields.proofs.Breaking.{Whole}
 use Rattle.daywriter.proofs.Sizes.{length-field}
 
 module _ (file : List ℕ) (are : AreBytes file) (tag : Tag) (at : ℕ) (W : Whole file tag at) where

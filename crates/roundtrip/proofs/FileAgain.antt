@@ -23,11 +23,11 @@ use Rattle.dayrows.specs.declared.Test.the-variants as Test
 use Rattle.dayrows.specs.Test.{passes, within}
 use Rattle.dayrows.proofs.Faults.{fault-none}
 use Rattle.dayrows.proofs.Within.{passes-bounded, within-bounds}
-use Rattle.dayruns.specs.Field.{broken}
+use Rattle.dayfields.specs.Field.{broken}
+use Rattle.dayfields.proofs.Breaking.{Whole, broken-none}
 use Rattle.dayruns.specs.Run.{place-of, rows-of}
 use Rattle.dayfile.specs.File.{Tables, head-fields, head-fault, head-of, headed, tabled, tables, walked}
 use Rattle.dayfile.specs.Answer.{day-of}
-use Rattle.dayruns.proofs.Breaking.{Whole, broken-none}
 use Rattle.dayruns.proofs.Running.{field-none}
 use Rattle.dayfile.proofs.Rooms.{Few, few-none}
 use Rattle.dayruns.proofs.Ending.{ended-none}

@@ -23,10 +23,10 @@ use Rattle.dayrows.specs.declared.Test.{Test}
 use Rattle.dayrows.specs.declared.Test.the-variants.{Bounds, Key, Mdq}
 use Rattle.dayrows.specs.Test.{within, bounded, rises, named, starved, passes, fault}
 use Rattle.dayrows.proofs.Faults.{none-fault}
-use Rattle.dayruns.specs.Field.{broken}
+use Rattle.dayfields.specs.Field.{broken}
+use Rattle.dayfields.proofs.Breaking.{whole-none}
 use Rattle.dayruns.specs.Run.{place-of, rows-of, field-fault}
 use Rattle.dayfile.specs.File.{head-fields, head-fault, head-of, headed}
-use Rattle.dayruns.proofs.Breaking.{whole-none}
 use Rattle.daywriter.specs.Written.{head-row}
 use Rattle.roundtrip.proofs.FieldsThere.{whole-there, row-there}
 use Rattle.roundtrip.proofs.FileAgain.{head-numbers}

@@ -13,9 +13,8 @@ use Rattle.dayformat.specs.Format.{widths, field-size, form}
 use Rattle.dayformat.specs.Table.{joined, field}
 use Rattle.dayformat.proofs.Tables.{joined-same, joined-split, length-joined}
 use Rattle.dayrows.specs.Test.{fault}
-use Rattle.dayruns.specs.Field.{begun}
-use Rattle.dayruns.specs.Run.{Fields, place-of, row-of, rows-of, field-fault, stops, run-rows, run-of}
-use Rattle.dayruns.proofs.Breaking.{Whole, whole-none}
+use Rattle.dayfields.proofs.Breaking.{Whole, whole-none}
+use Rattle.dayruns.specs.Run.{Fields, place-of, row-of, rows-of, field-fault, begun, stops, run-rows, run-of}
 use Rattle.daywriter.proofs.Sizes.{length-field}
 use Rattle.roundtrip.proofs.Above.{Above, begun-above, whole-begun}
 use Rattle.roundtrip.proofs.FieldsThere.{whole-there, row-there}

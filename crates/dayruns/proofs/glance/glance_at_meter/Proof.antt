@@ -1,74 +1,39 @@
--- A row within its bounds that follows the one before is sound where its shipper is found.
+-- A row that passes every test but that of its names is sound where its shipper is found.
+use mathlib.Core.Path.{refl}
+use Prim.Native.Nat.{_+_, _≤_}
 use native.Mathlib.Omega.{arith}
 use borrow.Author.Tests.{not-false, ltb-true}
+use lib.ListN.{length}
 use Rattle.dayformat.specs.declared.form.Tag.the-variants.{Meter}
+use Rattle.dayformat.specs.Format.{form}
+use Rattle.dayformat.specs.Layout.{row-start}
+use Rattle.dayrows.specs.Test.{named}
 use Rattle.dayrows.proofs.Sound.{listed-shipper}
-use Rattle.dayruns.specs.Glance.{Ready}
-use Rattle.dayruns.proofs.Breaking.{Whole, broken-none}
-use Rattle.dayruns.proofs.Glancing.{unready, unseen, seen}
+use Rattle.daybodies.proofs.Bodies.{kept-room}
+use Rattle.dayruns.proofs.Glancing.{unsure, glanced}
 use borrow.Author.Needs.{needs}
 use Rattle.dayruns.proofs.glance.glance_at_meter.Statement.{statement}
 use Rattle.dayruns.proofs.glance.glance_at_meter.Tie as tie
 
-abbrev start-of : tie.Else1 → tie.Start
-start-of c = c .before .before .before .before .before
+-- the row has room
+room : (c : tie.Else1)
+    → let args = c .before .before .before .before .before .before .before .args in
+    row-start (args .counts) Meter (args .row) + form Meter .columns ≤ length (args .numbers .now)
+room c =
+    let read = c .before .before .before .read-meter in
+    kept-room (read .ensures) (not-false (read .result) (c .if1 .left))
 
-ready : (c : tie.Else1)
-    → Ready (start-of c .args .source) (start-of c .args .counts) (start-of c .args .file .now) Meter
-    (start-of c .args .at) (start-of c .args .row) (start-of c .args .numbers .now)
-ready c = let asked = c .before .is-ready in asked .ensures (not-false (asked .result) (c .if1 .left))
-
-whole : (c : tie.Else1) → Whole (start-of c .args .file .now) Meter (start-of c .args .at)
-whole c = broken-none (start-of c .args .file .now) Meter (start-of c .args .at) (ready c .whole)
-
-is-ready-requires : tie.Need-is-ready-requires
-is-ready-requires c κs = search needs
+read-meter-requires : tie.Need-read-meter-requires
+read-meter-requires c κs = search needs
 
 same-length : tie.Need-same-length
 same-length c = search needs
 
 returns : tie.Need-returns
-returns c =
-    let args = c .before .before .before .before .before .args in
-    unready (args .source) (args .counts) (args .file .now) Meter (args .at) (args .row) (args .numbers .now)
+returns c = unsure _ _ _ _ _ _ _ (c .before .before .before .read-meter .ensures)
 
 row-place-requires : tie.Need-row-place-requires
 row-place-requires c κs = search needs
-
-add-read-meter : tie.Need-add-read-meter
-add-read-meter c = let start = start-of (c .before) in omega (arith, whole (c .before) .there, start .good .1 .1 .0 .0)
-
-read-meter-requires : tie.Need-read-meter-requires
-read-meter-requires c κs =
-    let place = c .before in
-    (omega (arith, whole (place .before) .there), omega (arith, ready (place .before) .room, place .row-place .ensures .0))
-
-same-length-2 : tie.Need-same-length-2
-same-length-2 c = search needs
-
-returns-2 : tie.Need-returns-2
-returns-2 c =
-    let read = c .before .before .before in
-    let place = read .before .before in
-    let args = start-of (place .before) .args in
-    unseen (args .source) (args .counts) (args .file .now) Meter (args .at) (args .row) (args .numbers .now)
-    (ready (place .before)) (place .row-place .ensures .0) (read .read-meter .ensures)
-
-is-next-requires : tie.Need-is-next-requires
-is-next-requires c κs =
-    let read = c .before .before .before .before in
-    omega (arith, ready (read .before .before .before) .room, read .read-meter .kept .1 .1 .0)
-
-same-length-3 : tie.Need-same-length-3
-same-length-3 c = search needs
-
-returns-3 : tie.Need-returns-3
-returns-3 c =
-    let read = c .before .before .before .before .before .before in
-    let place = read .before .before in
-    let args = start-of (place .before) .args in
-    unseen (args .source) (args .counts) (args .file .now) Meter (args .at) (args .row) (args .numbers .now)
-    (ready (place .before)) (place .row-place .ensures .0) (read .read-meter .ensures)
 
 cast-shippers : tie.Need-cast-shippers
 cast-shippers c = search needs
@@ -78,54 +43,45 @@ mul-shipper-from c = search needs
 
 slice-reshared-read-shipper-from : tie.Need-slice-reshared-read-shipper-from
 slice-reshared-read-shipper-from c =
-    let read = c .before .before .before .before .before .before .before .before in
-    let place = read .before .before in
-    omega (arith, ready (place .before) .room, place .row-place .ensures .0, read .read-meter .kept .1 .1 .0)
+    let place = c .before .before in
+    let kept = place .before in
+    omega (arith, room kept, place .row-place .ensures .0, kept .before .before .before .read-meter .kept .1 .1 .1 .1 .0)
 
 shipper-from-requires : tie.Need-shipper-from-requires
 shipper-from-requires c κs =
-    let read = c .before .before .before .before .before .before .before .before in
-    omega (arith, ready (read .before .before .before) .room, read .read-meter .kept .1 .1 .0)
+    let kept = c .before .before .before in
+    omega (arith, room kept, kept .before .before .before .read-meter .kept .1 .1 .1 .1 .0)
 
-same-length-4 : tie.Need-same-length-4
-same-length-4 c = search needs
+same-length-2 : tie.Need-same-length-2
+same-length-2 c = search needs
 
-returns-4 : tie.Need-returns-4
-returns-4 c =
-    let next = c .before .before .before in
-    let kept = next .before .before .before in
-    let read = kept .before .before .before in
-    let place = read .before .before in
-    let args = start-of (place .before) .args in
-    let follows = next .before .is-next .ensures (not-false (next .before .is-next .result) (next .if3 .left)) in
-    seen (args .source) (args .counts) (args .file .now) Meter (args .at) (args .row) (args .numbers .now)
-    (ready (place .before)) (place .row-place .ensures .0) (read .read-meter .ensures)
-    (not-false (read .read-meter .result) (kept .if2 .left))
+returns-2 : tie.Need-returns-2
+unfolding named
+returns-2 c =
+    let place = c .before .before .before in
+    let kept = place .before in
+    let read = kept .before .before .before .read-meter in
+    let args = kept .before .before .before .before .before .before .before .args in
+    glanced _ _ _ _ _ _ _ (read .ensures)
     (λ yes.
     let found = ltb-true _ _ yes in (
-      follows .0,
-      follows .1,
-      listed-shipper (args .counts) _ (c .shipper-from .result) _ found (c .shipper-from .ensures found),
+      not-false (read .result) (kept .if1 .left),
+      refl,
+      rw (← place .row-place .ensures .0)
+          (listed-shipper (args .counts) _ (c .shipper-from .result) _ found (c .shipper-from .ensures found)),
     ))
 
 pub glance-at-meter-spec : {M : Type 1} → statement M
 glance-at-meter-spec =
     tie.close
     (tie.spec
-    is-ready-requires
+    read-meter-requires
     same-length
     returns
     row-place-requires
-    add-read-meter
-    read-meter-requires
-    same-length-2
-    returns-2
-    is-next-requires
-    same-length-3
-    returns-3
     cast-shippers
     mul-shipper-from
     slice-reshared-read-shipper-from
     shipper-from-requires
-    same-length-4
-    returns-4)
+    same-length-2
+    returns-2)

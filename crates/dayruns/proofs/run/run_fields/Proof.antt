@@ -6,11 +6,9 @@ use native.Mathlib.Omega.{arith}
 use lib.ListN.{length}
 use Rattle.dayformat.specs.Format.{field-size}
 use Rattle.dayformat.proofs.Small.{small}
-use Rattle.dayruns.specs.Field.{begun}
-use Rattle.dayruns.specs.Run.{Fields}
-use Rattle.dayruns.proofs.Breaking.{begun-inside}
-use Rattle.dayruns.proofs.Taking.{taken-long}
-use Rattle.dayruns.proofs.Running.{Going, going-none, going-long, run-over, run-faulty, going-few, going-there, going-next}
+use Rattle.dayfields.proofs.Taking.{taken-long}
+use Rattle.dayruns.specs.Run.{Fields, begun}
+use Rattle.dayruns.proofs.Running.{begun-inside, Going, going-none, going-long, run-over, run-faulty, going-few, going-there, going-next}
 use borrow.Author.Needs.{needs}
 use Rattle.dayruns.proofs.run.run_fields.Statement.{statement}
 use Rattle.dayruns.proofs.run.run_fields.Tie as tie

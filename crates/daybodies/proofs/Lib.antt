@@ -1,0 +1,5 @@
+pub mod Bodies
+pub mod BodyReading
+pub mod Determined
+pub mod Following
+pub mod KindReading

@@ -1,0 +1,4 @@
+pub mod Breaking
+pub mod Determined
+pub mod RowReading
+pub mod Taking

@@ -1,0 +1,30 @@
+// Whether a field stands whole at a byte.
+use bigendian::number_at;
+use dayformat::Tag;
+use dayformat::form_of;
+ghost use mathlib.Core.Path.{_≡_};
+ghost use Rattle.dayfields.specs.Field.{broken};
+
+// The first of 1 (header), 2 and 1 (body) that a field is refused by, 0 for none.
+pub fn breaks(file: &[u8], tag: Tag, at: usize) -> u8
+    ensures { λ r. ⌜ r ≡ broken (now (file .entry)) tag at ⌝ }
+{
+    if file.len() < at {
+        return 1;
+    }
+    let left = file.len() - at;
+    if left < 3 {
+        return 1;
+    }
+    let form = form_of(tag);
+    if file[at] != form.byte {
+        return 2;
+    }
+    if number_at(file, at + 1, 2) as usize != form.size {
+        return 2;
+    }
+    if left < 3 + form.size {
+        return 1;
+    }
+    0
+}
