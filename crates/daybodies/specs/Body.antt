@@ -1,4 +1,4 @@
--- 01, "The day file": a field's row read at once, and every test of it that looks at no other table.
+-- 01, "The day file": a field's row read at once, with every test of it that looks at no other table.
 use mathlib.Core.Path.{_≡_}
 use mathlib.Core.Bool.{Bool, false, cond}
 use mathlib.Core.List.{List}

@@ -1,4 +1,4 @@
-// Each tag's body, kind by kind. With each tag named, its sizes and places are constants.
+// Each tag's row, read kind by kind. With each tag named, its sizes and places are constants.
 use crate::key::is_next;
 use crate::kind::read_kind;
 use dayfields::breaks;
@@ -50,6 +50,8 @@ fn is_fed(numbers: &[usize], at: usize) -> bool
     !is_idle(numbers[at + 2], numbers[at + 4])
 }
 
+// The row of the field at a byte goes into the numbers, where the field is whole and the row has room. Whether it passes every test
+// but that of its names.
 pub fn read_shipper(counts: Counts, file: &[u8], at: usize, row: u32, numbers: &mut [usize]) -> bool
     ensures { λ r. ⌜ BodyRead counts (now (file .entry)) Tag.Shipper at row (now (numbers .entry)) (now (numbers .exit)) r ⌝ }
 {

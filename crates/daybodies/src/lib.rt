@@ -1,4 +1,4 @@
-// A field's row read at once, and every test of it that looks at no other table, opened.
+// A field's row read kind by kind, with every test of it that looks at no other table, opened.
 mod body;
 mod key;
 mod kind;
