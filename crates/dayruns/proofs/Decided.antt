@@ -50,7 +50,7 @@ abbrev pub Known : ℕ → Type 0
 Known number = number ≤ 5
 
 known : (number : ℕ) → T (leb number 5) → Known number
-known number least = lit≤ least
+known number small = lit≤ small
 
 either : (first : Bool) {m n : ℕ} → Known m → Known n → Known (cond first m n)
 either true one other = one

@@ -101,9 +101,6 @@ module _ (source : Source) (counts : Counts) (file : List ℕ) (tag : Tag) (at r
         by true on T = afresh on T
         by false off T = T
 
-    pub unsure : Glanced source counts file tag at row lent after false
-    unsure = record { sure = λ no. absurd (true≢false (sym no)); again = again }
-
     pub glanced : {sound : Bool}
         → (sound ≡ true → (kept ≡ true) × (source ≡ File) × (named counts (col after) tag (row-start counts tag row) ≡ true))
         → Glanced source counts file tag at row lent after sound
@@ -116,3 +113,7 @@ module _ (source : Source) (counts : Counts) (file : List ℕ) (tag : Tag) (at r
             let there : after ≡ with-row counts file tag at row lent = B .lays ∙ rw (asked .0) in
             let none = sound-named counts (col after) tag row (rw there (asked .1)) (seen .2) in
             taken-whole source counts file tag at row lent (sym (whole (asked .0))) refl there (rw (seen .1) (sym none))
+
+    -- a row laid, and no more said of it
+    pub unsure : Glanced source counts file tag at row lent after false
+    unsure = glanced (λ no. absurd (true≢false (sym no)))
