@@ -11,35 +11,17 @@ use Rattle.units.specs.declared.refusal.Refusal.{Refusal}
 use Rattle.units.specs.declared.refusal.Check.{Check}
 use Rattle.units.specs.declared.refusal.Check.the-variants.{Accepted, Refused}
 use Rattle.units.specs.Bound.{most-hour}
-use Rattle.units.proofs.Places.{PlacedTo, _then-if_, plainly, two-lists}
-use Rattle.units.proofs.Verdicts.{AllNumbered, none, _and_, kept-by, cleared-by}
 use Rattle.lines.specs.Line.{line, decimals, refused}
 use Rattle.lines.proofs.Sizes.{line-none, line-within, figure-within}
 use Rattle.pointshares.specs.Share.{shares}
 use Rattle.pointshares.specs.Answer.{check}
 use Rattle.pointshares.proofs.Accepting.{accepting}
 use Rattle.pointshares.proofs.Cases.{share-most}
+use Rattle.pointshares.proofs.Decided.{hour-numbered, hour-placed}
 use Rattle.listings.proofs.Lines.{texts-most}
 use Rattle.pointhours.specs.HourText.{share-lines, hour-lines}
 
 -- ---- the hour's own refusal
-module _ (h : ℕ) (entitlements mdqs : List ℕ) (room : ℕ) where
-  hour-numbered : AllNumbered (check h entitlements mdqs room)
-  unfolding check
-  hour-numbered =
-      none
-      and kept-by _ 9 tt tt
-      and kept-by _ 3 tt tt
-      and kept-by _ 3 tt tt
-      and cleared-by _ _ 3 tt tt
-      and cleared-by _ _ 3 tt tt
-      and kept-by _ 6 tt tt
-      and kept-by _ 7 tt tt
-
-  hour-placed : PlacedTo 63 (check h entitlements mdqs room)
-  unfolding check
-  hour-placed = two-lists _ _ entitlements mdqs (plainly _ 3 refl) .placed then-if plainly _ 6 then-if plainly _ 7
-
 refused-most : (refusal : Refusal) → refusal .number ≤ 11 → refusal .place ≤ 63 → length (refused refusal) ≤ 15
 refused-most refusal n p =
     line-within _ _ (le-refl 7)

@@ -1,9 +1,10 @@
--- The tests decide an answer of `share_hour`: number 0 exactly where they accept, zero where they refuse.
+-- The tests decide an answer of `share_hour`: number 0 exactly where they accept, zero where they refuse; a refused row is one of 64.
 use mathlib.Core.Path.{refl}
 use mathlib.Core.List.{List}
 use Prim.Native.Nat.{ℕ}
 use lib.ListN.{length}
 use Rattle.units.specs.Verdict.{Decided}
+use Rattle.units.proofs.Places.{PlacedTo, _then-if_, plainly, two-lists}
 use Rattle.units.proofs.Verdicts.{AllNumbered, none, _and_, kept-by, cleared-by, decided}
 use Rattle.pointshares.specs.declared.Hour.{Hour}
 use Rattle.pointshares.specs.Answer.{check, given, answer, verdict, Answered}
@@ -24,3 +25,8 @@ pub hour-decided : {h : ℕ} {entitlements mdqs lent after : List ℕ} {hour : H
     → Decided (check h entitlements mdqs (length lent)) (given h entitlements mdqs) (record { 0 = 0 }) (verdict hour)
 hour-decided {h} {entitlements} {mdqs} {lent} A =
     decided answer verdict refl (λ refusal. refl) (hour-numbered h entitlements mdqs (length lent)) (A .answers)
+
+pub hour-placed : (h : ℕ) (entitlements mdqs : List ℕ) (room : ℕ) → PlacedTo 63 (check h entitlements mdqs room)
+unfolding check
+hour-placed h entitlements mdqs room =
+    two-lists _ _ entitlements mdqs (plainly _ 3 refl) .placed then-if plainly _ 6 then-if plainly _ 7
