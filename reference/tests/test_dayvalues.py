@@ -1,6 +1,6 @@
 """Rows and columns of a day in memory, and the shares from its numbers."""
 
-from dayfile import Counts
+from dayfile import Counts, write_day
 from dayformat import ENTRY, METER, POINT, SHIPPER
 from days import full_day, make_day, meter
 from dayshares import share_day
@@ -174,8 +174,10 @@ class Shares(RuleTest):
             self.refused(3, 1, share_numbers, later)
 
     def test_firm_rows_before_auction_rows(self):
-        shippers = [(1, 1, 0, 1, 1, 0), (2, 0, 1, 1, 1, 0)]
+        """List by list, where the writer goes row by row."""
+        shippers = [(1, 5, 0, 1, 1, 0), (2, 0, 5, 1, 1, 0)]
         self.refused(4, 1, share_numbers, make_day(shippers=shippers))
+        self.refused(4, 0, write_day, make_day(shippers=shippers))
         self.refused(4, 0, share_numbers, make_day(shippers=shippers[:1]))
 
     def test_room(self):
