@@ -12,7 +12,7 @@ use Rattle.pointshares.specs.Answer as Point
 use Rattle.usegas.specs.Fuel.{check}
 use Rattle.metered.specs.Hours.{rows-check}
 use Rattle.metered.specs.Singles.{mdqs-check, side-check, sides-check}
-use Rattle.overruns.specs.TwelveHourly.{period-limit}
+use Rattle.excesses.specs.TwelveHourly.{period-limit}
 use Rattle.overruns.specs.Day.{day-check}
 use Rattle.tariff.specs.HalfUp.{half-up}
 use Rattle.tariff.specs.Charges.{overrun-check, variation-check}

@@ -9,9 +9,9 @@ use Rattle.dayshares.specs.Given.{firm}
 use Rattle.pointshares.specs.declared.Hour.the-variants.{Shared}
 use Rattle.usegas.specs.declared.fuel.ImbalanceFuel.the-variants.{Supplied}
 use Rattle.usegas.specs.Fuel.{imbalance-fuel}
+use Rattle.excesses.specs.Hourly.{hour-excess}
+use Rattle.excesses.specs.TwelveHourly.{period-limit}
 use Rattle.overruns.specs.declared.day.DayOverruns.the-variants.{Over}
-use Rattle.overruns.specs.Hourly.{hour-excess}
-use Rattle.overruns.specs.TwelveHourly.{period-limit}
 use Rattle.overruns.specs.Day.{with-greatest, day-answer, verdict}
 use Rattle.tariff.specs.declared.charges.Change.{Change}
 use Rattle.tariff.specs.declared.charges.Charge.the-variants.{Charged}

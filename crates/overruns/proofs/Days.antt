@@ -1,5 +1,5 @@
 -- A side's day: the gas of its 24 hours and its schedules, as the code adds them up.
-use mathlib.Core.Path.{_≡_, ap, _∙_}
+use mathlib.Core.Path.{_≡_, refl, ap, _∙_}
 use mathlib.Core.List.{List}
 use Prim.Native.Nat.{ℕ, _+_, _-_, _*_, _≤_}
 use native.Mathlib.Omega.{arith}
@@ -8,11 +8,11 @@ use Rattle.columns.specs.Column.{col}
 use Rattle.columns.specs.Sum.{sum}
 use Rattle.units.specs.declared.Megajoules.{Megajoules}
 use Rattle.units.specs.Unit.{thousandfold}
-use Rattle.units.specs.Bound.{most-hour}
+use Rattle.units.specs.Bound.{most-hour, most-backhaul}
 use Rattle.metered.specs.declared.Side.{Side}
 use Rattle.metered.specs.Hours.{Within}
-use Rattle.overruns.specs.Daily.{daily}
-use Rattle.overruns.proofs.Excesses.{gas-most}
+use Rattle.excesses.proofs.Excesses.{gas-most}
+use Rattle.overruns.specs.Daily.{daily, most-daily}
 
 -- the gas of the hours
 module _ (row : List ℕ) {hours : List ℕ} {gas : ℕ} (same : hours ≡ row) (e : gas ≡ sum (length hours) (col hours)) where
@@ -20,7 +20,7 @@ module _ (row : List ℕ) {hours : List ℕ} {gas : ℕ} (same : hours ≡ row) 
   day-gas n = e ∙ ap (λ k. sum k (col hours)) n ∙ ap (λ xs. sum 24 (col xs)) same
 
   pub day-gas-most : length hours ≡ 24 → Within row → gas ≤ 24 * most-hour
-  day-gas-most n low = omega (arith, day-gas n, gas-most row low 24)
+  day-gas-most n low = omega (arith, day-gas n, gas-most (col row) low 24)
 
 -- the schedules
 module _ (side : Side) {forward backhaul : Megajoules}
@@ -31,3 +31,15 @@ module _ (side : Side) {forward backhaul : Megajoules}
   pub day-over : (row : List ℕ) {gas over : ℕ} → gas ≡ sum 24 (col row) → over ≡ gas + side .metered .0 - (forward .0 + backhaul .0)
       → over ≡ daily (col row) side
   day-over row g e = omega (arith, scheduled)
+
+-- the most that the daily overrun can be, which it reaches with schedules of zero and all gas at its bound
+pub daily-most : (metered : List ℕ) (side : Side) → Within metered → side .metered .0 ≤ most-backhaul
+    → daily (col metered) side ≤ most-daily
+daily-most metered side low back = omega (arith, gas-most (col metered) low 24)
+
+abbrev unscheduled : Side
+unscheduled = record { forward = record { 0 = 0 }; backhaul = record { 0 = 0 }; metered = record { 0 = most-backhaul } }
+
+pub daily-reached : daily (λ hour. most-hour) unscheduled ≡ most-daily
+unfolding sum
+daily-reached = refl

@@ -10,12 +10,14 @@ use Rattle.units.proofs.Verdicts.{AllNumbered, none, _and_, kept-by, cleared-by
 use Rattle.metered.specs.declared.Side.{Side}
 use Rattle.metered.specs.Hours.{delivered, received}
 use Rattle.metered.proofs.Decided.{rows-numbered, mdqs-numbered, sides-numbered}
+use Rattle.excesses.specs.Hourly.{hourly}
+use Rattle.excesses.specs.TwelveHourly.{twelve-hourly}
 use Rattle.overruns.specs.declared.Overrun.{Overrun}
 use Rattle.overruns.specs.declared.daily.DailyOverruns.{DailyOverruns}
 use Rattle.overruns.specs.declared.day.DayOverruns.{DayOverruns}
 use Rattle.overruns.specs.Answers.{over-where, verdict}
-use Rattle.overruns.specs.Hourly.{hourly, hourly-check, hourly-answer}
-use Rattle.overruns.specs.TwelveHourly.{twelve-hourly, twelve-hourly-check, twelve-hourly-answer}
+use Rattle.overruns.specs.Hourly.{hourly-check, hourly-answer}
+use Rattle.overruns.specs.TwelveHourly.{twelve-hourly-check, twelve-hourly-answer}
 use Rattle.overruns.specs.Daily.{both-daily, daily-check, daily-where, daily-answer, verdict as daily-verdict}
 use Rattle.overruns.specs.Day.{ShipperDay, day-overruns, day-check, day-where, day-answer, verdict as day-verdict}
 

@@ -1,10 +1,8 @@
 pub mod Limits
-pub mod Excesses
-pub mod Periods
+pub mod Parts
 pub mod Days
 pub mod Accepting
 pub mod Answers
-pub mod Greatest
 pub mod WholeDay
 pub mod Decided
 pub mod Promises

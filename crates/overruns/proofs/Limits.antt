@@ -7,7 +7,7 @@ use borrow.Author.Tests.{le-leb, lt-leb}
 use Rattle.units.specs.declared.Gigajoules.{Gigajoules}
 use Rattle.units.specs.declared.Megajoules.{Megajoules}
 use Rattle.units.specs.Unit.{thousandfold}
-use Rattle.overruns.specs.TwelveHourly.{period-limit}
+use Rattle.excesses.specs.TwelveHourly.{period-limit}
 
 module _ (count : ℕ) (mdq : Gigajoules) {gas : Megajoules} (e : gas ≡ thousandfold mdq) where
   thousandth : gas .0 / 1000 ≡ mdq .0

@@ -6,9 +6,10 @@ use Rattle.units.specs.declared.refusal.Refusal.{Refusal}
 use Rattle.units.specs.declared.refusal.Check.{Check}
 use Rattle.metered.specs.Hours.{figures, delivered, Within, Rows-within}
 use Rattle.metered.specs.Singles.{Backhaul-within}
+use Rattle.excesses.specs.Greatest.{greatest}
 use Rattle.overruns.specs.declared.day.Overruns.{Overruns}
 use Rattle.overruns.specs.declared.day.DayOverruns.{DayOverruns}
-use Rattle.overruns.specs.Day.{ShipperDay, greatest, with-greatest, all-compared, day-check, day-answer}
+use Rattle.overruns.specs.Day.{ShipperDay, with-greatest, all-compared, day-check, day-answer}
 use Rattle.overruns.proofs.Accepting.{day-accepting}
 
 -- ---- the day is tested, its delivered hours joined to yesterday's

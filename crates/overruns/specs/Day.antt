@@ -1,6 +1,6 @@
 -- 01, "Overruns of a day": all four of a shipper's day, and the greatest of them (cl. 7.2).
 use mathlib.Core.List.{List, _++_}
-use Prim.Native.Nat.{ℕ, max}
+use Prim.Native.Nat.{ℕ}
 use Rattle.columns.specs.Column.{col}
 use Rattle.units.specs.declared.Gigajoules.{Gigajoules}
 use Rattle.units.specs.declared.Megajoules.{Megajoules}
@@ -11,10 +11,11 @@ use Rattle.units.specs.Verdict.{Verdict, accepting, refusing}
 use Rattle.metered.specs.declared.Side.{Side}
 use Rattle.metered.specs.Singles.{mdqs-check, sides-check}
 use Rattle.metered.specs.Hours.{figures, delivered, received, rows-check}
+use Rattle.excesses.specs.Hourly.{hourly}
+use Rattle.excesses.specs.TwelveHourly.{twelve-hourly}
+use Rattle.excesses.specs.Greatest.{greatest}
 use Rattle.overruns.specs.declared.day.Overruns.{Overruns}
 use Rattle.overruns.specs.declared.day.DayOverruns.{DayOverruns}
-use Rattle.overruns.specs.Hourly.{hourly}
-use Rattle.overruns.specs.TwelveHourly.{twelve-hourly}
 use Rattle.overruns.specs.Daily.{daily}
 
 -- a shipper's day: the figures of a tag 5 field, both sides' hours as two rows, delivered first
@@ -31,9 +32,6 @@ pub record Hours : Type 0 where
   pub both-days : List ℕ
   pub delivered : List ℕ
   pub received : List ℕ
-
-abbrev pub greatest : ℕ → ℕ → ℕ → ℕ → ℕ
-greatest hourly twelve-hourly receipt delivery = max (max hourly twelve-hourly) (max receipt delivery)
 
 -- the four, in 01's order, and the greatest
 abbrev pub with-greatest : ℕ → ℕ → ℕ → ℕ → Overruns

@@ -1,26 +1,17 @@
 -- 01, "Overruns of a day": what the overruns of every answer keep, whatever the input.
-use mathlib.Core.Path.{_≡_}
-use mathlib.Core.Logic.{_⊎_}
-use Prim.Native.Nat.{ℕ, _≤_}
+use Prim.Native.Nat.{_≤_}
 use Rattle.units.specs.Bound.{most-chargeable}
+use Rattle.excesses.specs.Hourly.{most-hourly}
+use Rattle.excesses.specs.TwelveHourly.{most-twelve-hourly}
+use Rattle.excesses.specs.Greatest.{Greatest}
 use Rattle.overruns.specs.declared.daily.Daily.{Daily}
 use Rattle.overruns.specs.declared.day.Overruns.{Overruns}
-use Rattle.overruns.specs.Hourly.{most-hourly}
-use Rattle.overruns.specs.TwelveHourly.{most-twelve-hourly}
 use Rattle.overruns.specs.Daily.{most-daily}
 
 -- both daily overruns are at most what they can be
 pub record DailyKept (over : Daily) : Type 0 where
   pub receipt : over .receipt .0 ≤ most-daily
   pub delivery : over .delivery .0 ≤ most-daily
-
--- the greatest is one of four and no less than any
-pub record Greatest (a b c d g : ℕ) : Type 0 where
-  pub one : (g ≡ a) ⊎ ((g ≡ b) ⊎ ((g ≡ c) ⊎ (g ≡ d)))
-  pub first : a ≤ g
-  pub second : b ≤ g
-  pub third : c ≤ g
-  pub fourth : d ≤ g
 
 -- all four are at most what they can be, and the greatest can be charged
 pub record DayKept (over : Overruns) : Type 0 where

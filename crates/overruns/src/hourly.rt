@@ -10,7 +10,8 @@ use units::Megajoules;
 ghost use mathlib.Core.Path.{_≡_};
 ghost use Rattle.columns.specs.Column.{col};
 ghost use Rattle.metered.specs.Hours.{delivered, received, Rows-within};
-ghost use Rattle.overruns.specs.Hourly.{hourly, hourly-answer};
+ghost use Rattle.excesses.specs.Hourly.{hourly};
+ghost use Rattle.overruns.specs.Hourly.{hourly-answer};
 
 // The sum over the hours of the greater of the two excesses.
 pub fn hourly(m: Gigajoules, hours: [[Megajoules; 24]; 2]) -> Megajoules

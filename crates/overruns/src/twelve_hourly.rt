@@ -12,7 +12,8 @@ ghost use Prim.Native.Nat.{_≤_};
 ghost use lib.ListN.{length};
 ghost use Rattle.columns.specs.Column.{col};
 ghost use Rattle.metered.specs.Hours.{Within};
-ghost use Rattle.overruns.specs.TwelveHourly.{period-limit, excesses-before, twelve-hourly, twelve-hourly-answer};
+ghost use Rattle.excesses.specs.TwelveHourly.{period-limit, excesses-before, twelve-hourly};
+ghost use Rattle.overruns.specs.TwelveHourly.{twelve-hourly-answer};
 
 // The limit of the period that ends with hour h of today, whose first 12 − h hours are yesterday's.
 fn period_limit(p: Gigajoules, m: Gigajoules, h: u64) -> Megajoules

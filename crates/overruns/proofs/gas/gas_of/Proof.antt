@@ -6,7 +6,7 @@ use borrow.Author.Needs.{needs}
 use lib.ListN.{length}
 use Rattle.columns.specs.Column.{col}
 use Rattle.columns.proofs.Sums.{Adding, adding-none, adding-next, adding-all}
-use Rattle.overruns.proofs.Excesses.{adding-fits}
+use Rattle.excesses.proofs.Excesses.{adding-fits}
 use Rattle.overruns.proofs.gas.gas_of.Statement.{statement}
 use Rattle.overruns.proofs.gas.gas_of.Tie as tie
 

@@ -4,16 +4,17 @@ use mathlib.Core.List.{[]}
 use Prim.Native.Nat.{_+_, _-_}
 use borrow.Author.Needs.{needs}
 use lib.ListN.{getD}
+use Rattle.columns.specs.Column.{col}
 use Rattle.columns.proofs.Sums.{Adding, adding-none, adding-next}
 use Rattle.metered.specs.Hours.{delivered, received}
 use Rattle.metered.proofs.Rows.{figure-at}
-use Rattle.overruns.proofs.Excesses.{greater-excess, hours-fit, all-hours}
+use Rattle.excesses.proofs.Excesses.{greater-excess, hours-fit, all-hours}
 use Rattle.overruns.proofs.hourly.hourly.Statement.{statement}
 use Rattle.overruns.proofs.hourly.hourly.Tie as tie
 
 abbrev Inv-loop : tie.InvT-loop
 Inv-loop hours most-delivered most-received total₀ hour₀ total hour =
-    Adding 24 (greater-excess (delivered hours) (received hours) (most-delivered .0) (most-received .0)) hour total
+    Adding 24 (greater-excess (col (delivered hours)) (col (received hours)) (most-delivered .0) (most-received .0)) hour total
 
 abbrev μ-loop : tie.MeasureT-loop
 μ-loop hours most-delivered most-received total₀ hour₀ total hour = 24 - hour
@@ -79,7 +80,7 @@ greater-requires c κs = search needs
 add-total : tie.Need-add-total Inv-loop μ-loop
 add-total c =
     let start = c .before .before .before .before .before .before .before .before .before .before in
-    record { fits = hours-fit (delivered (start .args .t2)) (received (start .args .t2)) _ _ (start .pre) (turn (c .before)) }
+    record { fits = hours-fit (col (delivered (start .args .t2))) (col (received (start .args .t2))) _ _ (start .pre) (turn (c .before)) }
 
 add-hour : tie.Need-add-hour Inv-loop μ-loop
 add-hour c = search needs
@@ -94,7 +95,7 @@ returns : tie.Need-returns Inv-loop μ-loop
 returns c =
     let limits = c .before .before in
     let args = limits .before .before .args in
-    all-hours (delivered (args .t2)) (received (args .t2)) _ _ (args .m .0) (c .before .loop .inv) (c .loop-test .left)
+    all-hours (col (delivered (args .t2))) (col (received (args .t2))) _ _ (args .m .0) (c .before .loop .inv) (c .loop-test .left)
     (limits .before .thousandths .ensures .0) (limits .thousandths2 .ensures .0)
 
 pub hourly-spec : {M : Type 1} → statement M

@@ -2,12 +2,14 @@
 use Prim.Native.Nat.{_+_, _≤_, _-_}
 use native.Mathlib.Omega.{arith}
 use borrow.Author.Needs.{needs}
-use Rattle.overruns.proofs.Periods.{part-few, part-gas, part-within, Added, given-before, added-before, one-more, periods-fit}
+use Rattle.columns.specs.Column.{col}
+use Rattle.excesses.proofs.Periods.{Added, given-before, added-before, one-more, periods-fit}
+use Rattle.overruns.proofs.Parts.{part-few, part-gas, part-within}
 use Rattle.overruns.proofs.twelve_hourly.add_periods.Statement.{statement}
 use Rattle.overruns.proofs.twelve_hourly.add_periods.Tie as tie
 
 abbrev Inv-loop : tie.InvT-loop
-Inv-loop p m hours from to total₀ h₀ total h = (1 ≤ h) × (h ≤ to) × Added (p .0) (m .0) hours h total
+Inv-loop p m hours from to total₀ h₀ total h = (1 ≤ h) × (h ≤ to) × Added (p .0) (m .0) (col hours) h total
 
 abbrev μ-loop : tie.MeasureT-loop
 μ-loop p m hours from to total₀ h₀ total h = to - h
@@ -20,7 +22,7 @@ hour-of-today c = omega (arith, c .loop-test .taken, c .before .before .before .
 turn : (c : tie.After-excess Inv-loop μ-loop)
     → let turns = c .before .before .before .before .before in
     let args = turns .before .before .args in
-    Added (args .p .0) (args .m .0) (args .hours .now) (turns .loop .h + 1) (turns .loop .total + c .excess .result .0)
+    Added (args .p .0) (args .m .0) (col (args .hours .now)) (turns .loop .h + 1) (turns .loop .total + c .excess .result .0)
 turn c =
     let summed = c .before .before in
     let test = summed .before .before in
@@ -29,7 +31,7 @@ turn c =
     let args = start .args in
     let from = turns .loop .inv .0 in
     let to = hour-of-today test in
-    one-more (args .p .0) (args .m .0) (args .hours .now) (turns .loop .h) from to (turns .loop .inv .2)
+    one-more (args .p .0) (args .m .0) (col (args .hours .now)) (turns .loop .h) from to (turns .loop .inv .2)
     (part-gas (args .hours .now) (turns .loop .h) (start .pre .0 .0) from to (summed .gas-of .ensures))
     (c .before .period-limit .ensures) (c .excess .ensures)
 
@@ -39,7 +41,7 @@ loop-holds c =
     let args = start .args in
     let between = start .pre .1 .0 in
     let low : args .from ≤ 25 = omega (arith, between .1, between .2) in
-    (between .0, between .1, given-before (args .p .0) (args .m .0) (args .hours .now) low (start .pre .1 .1))
+    (between .0, between .1, given-before (args .p .0) (args .m .0) (col (args .hours .now)) low (start .pre .1 .1))
 
 sub-gas-of : tie.Need-sub-gas-of Inv-loop μ-loop
 sub-gas-of c = search needs
@@ -77,7 +79,7 @@ add-total : tie.Need-add-total Inv-loop μ-loop
 add-total c =
     let start = c .before .before .before .before .before .before .before .before in
     let args = start .args in
-    record { fits = periods-fit (args .p .0) (args .m .0) (args .hours .now) (start .pre .0 .1) (turn (c .before)) }
+    record { fits = periods-fit (args .p .0) (args .m .0) (col (args .hours .now)) (start .pre .0 .1) (turn (c .before)) }
 
 add-h : tie.Need-add-h Inv-loop μ-loop
 add-h c = search needs
@@ -92,7 +94,8 @@ returns : tie.Need-returns Inv-loop μ-loop
 returns c =
     let turns = c .before in
     let args = turns .before .before .args in
-    added-before (args .p .0) (args .m .0) (args .hours .now) (args .to) (turns .loop .inv .2) (turns .loop .inv .1) (c .loop-test .left)
+    added-before (args .p .0) (args .m .0) (col (args .hours .now)) (args .to) (turns .loop .inv .2) (turns .loop .inv .1)
+    (c .loop-test .left)
 
 pub add-periods-spec : {M : Type 1} → statement M
 add-periods-spec =

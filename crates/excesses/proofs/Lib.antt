@@ -1,0 +1,3 @@
+pub mod Excesses
+pub mod Periods
+pub mod Greatest

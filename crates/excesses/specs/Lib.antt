@@ -1,0 +1,3 @@
+pub mod Hourly
+pub mod TwelveHourly
+pub mod Greatest
