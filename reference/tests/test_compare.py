@@ -25,20 +25,23 @@ def writing(code):
 
 
 class Files(unittest.TestCase):
+    @classmethod
+    def setUpClass(cls):
+        cls.files = [compare.made(SEED, number)[0] for number in range(600)]
+
     def test_same_seed_and_number(self):
         for number in range(20):
             self.assertEqual(compare.made(SEED, number), compare.made(SEED, number))
 
     def test_files_tell(self):
         """Every refusal of a file is met often, and sizes go from none to the greatest."""
-        files = [compare.made(SEED, number)[0] for number in range(600)]
-        numbers = Counter(map(compare.refusal_of, files))
+        numbers = Counter(map(compare.refusal_of, self.files))
         self.assertEqual({None, 1, 2, 3, 4, 5}, set(numbers))
         self.assertGreater(min(numbers.values()), 20)
-        self.assertLessEqual({0, 25_551}, {len(file) for file in files})
+        self.assertLessEqual({0, 25_551}, {len(file) for file in self.files})
 
     def test_points_are_refused(self):
-        listings = [listing("points", [], compare.made(SEED, number)[0]) for number in range(400)]
+        listings = [listing("points", [], file) for file in self.files]
         self.assertGreater(sum("\nREFUSED 6 0\n" in text for text in listings), 5)
 
     def test_no_rates(self):
