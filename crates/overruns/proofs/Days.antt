@@ -1,4 +1,4 @@
--- A side's day: the gas of its 24 hours and its schedules, as the code adds them up.
+-- A side's day: the gas of its 24 hours and its schedules, as the code adds them up, and the most that its overrun can be.
 use mathlib.Core.Path.{_≡_, refl, ap, _∙_}
 use mathlib.Core.List.{List}
 use Prim.Native.Nat.{ℕ, _+_, _-_, _*_, _≤_}

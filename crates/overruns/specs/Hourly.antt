@@ -1,4 +1,4 @@
--- The hourly overrun of what is given: its tests, then the figure.
+-- 01, "Overruns of a day"; cl. 7.3: the hourly overrun of what is given: its tests, then the figure.
 use mathlib.Core.List.{List}
 use lib.Dec.{leb}
 use Rattle.columns.specs.Column.{col}

@@ -1,4 +1,4 @@
--- The twelve-hourly overrun of what is given: its tests, then the figure.
+-- 01, "Overruns of a day"; cl. 7.5: the twelve-hourly overrun of what is given: its tests, then the figure.
 use mathlib.Core.List.{List}
 use Prim.Native.Nat.{ℕ}
 use lib.Dec.{eqb}
