@@ -1,6 +1,6 @@
 """A meter of a day's numbers: the figures and the hours of a tag 5 row.
 
-Where a row is refused, its figures and hours are all zero; the refusal is that of `meter_at`.
+Where a row is refused, its hours are all zero; the refusal is that of `meter_at`.
 """
 
 from typing import NamedTuple
@@ -56,7 +56,7 @@ def side_of(meter, side):
 
 
 def meter_figures(counts, numbers, row):
-    meter = meter_or_zeros(counts, numbers, row)
+    meter = meter_at(counts, numbers, row)
     return Figures(*meter[:3], receipt=side_of(meter, 0), delivery=side_of(meter, 1))
 
 

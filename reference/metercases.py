@@ -77,7 +77,7 @@ ROW = Figure(WORD)
 
 ROUTINES = (
     ValueRoutine("check_meter", (InMemory(), ROW), answer_check, check_cases),
-    ValueRoutine("meter_figures", (InMemory(), ROW), answer_figures, meter_cases),
+    ValueRoutine("meter_figures", (InMemory(), ROW), answer_figures, check_cases),
     ValueRoutine("meter_yesterday", (InMemory(), ROW), answer_yesterday, meter_cases),
     ValueRoutine("meter_hours", (InMemory(), ROW), answer_hours, meter_cases),
     ValueRoutine(

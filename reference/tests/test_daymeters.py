@@ -31,11 +31,10 @@ class Meters(RuleTest):
         self.assertEqual(list(range(3, 38)), meter_delivered(DAY.counts, DAY.numbers, 1, 35))
 
     def meter_refused(self, number, place, day, row):
-        """The check refuses, the hours are not handed out, and all that is shown is zero."""
+        """The check and the figures refuse, the hours are not handed out, and those shown are zero."""
         self.refused(number, place, meter_at, day.counts, day.numbers, row)
+        self.refused(number, place, meter_figures, day.counts, day.numbers, row)
         self.refused(number, place, meter_delivered, day.counts, day.numbers, row, 0)
-        figures = meter_figures(day.counts, day.numbers, row)
-        self.assertEqual((0, 0, 0, (0, 0, 0), (0, 0, 0)), figures)
         self.assertEqual([0] * 11, [*meter_yesterday(day.counts, day.numbers, row)])
         delivered, received = meter_hours(day.counts, day.numbers, row)
         self.assertEqual(([0] * 24, [0] * 24), ([*delivered], [*received]))

@@ -24,7 +24,7 @@ REFUSALS = {
     "shipper_column": {0, 9, 3, 7},
     "share_numbers": {0, 9, 3, 4, 7},
     "check_meter": {0, 9, 3},
-    "meter_figures": {0},
+    "meter_figures": {0, 9, 3},
     "meter_yesterday": {0},
     "meter_hours": {0},
     "meter_delivered": {0, 9, 3, 7},

@@ -1,4 +1,5 @@
 // Big-endian numbers of up to 32 bits in a file. Every input is taken: a width above four counts as four.
+use columns::lesser;
 use text::put_byte;
 ghost use mathlib.Core.Path.{_≡_};
 ghost use mathlib.Core.List.{[], _∷_};
@@ -9,16 +10,6 @@ ghost use Rattle.bigendian.specs.Number.{value, bytes, widest};
 
 // A u32 has so many bytes.
 const WIDEST: usize = 4;
-
-// The smaller of two counts.
-fn smaller(x: usize, y: usize) -> usize
-    ensures { λ r. ⌜ r ≡ min x y ⌝ }
-{
-    if x < y {
-        return x;
-    }
-    y
-}
 
 // The number whose four bytes are those of another in the other order.
 fn turned(number: u32) -> u32
@@ -51,7 +42,7 @@ pub fn number_at(file: &[u8], at: usize, width: usize) -> u32
     if file.len() <= at {
         return 0;
     }
-    let count = smaller(smaller(width, WIDEST), file.len() - at);
+    let count = lesser(lesser(width, WIDEST), file.len() - at);
     if count == WIDEST {
         return four_of(&file[at..at + count]);
     }
@@ -68,7 +59,7 @@ pub fn number_at(file: &[u8], at: usize, width: usize) -> u32
 pub fn put_number(number: u32, width: usize, block: &mut [u8], at: usize)
     ensures { λ _. ⌜ now (block .exit) ≡ sets (now (block .entry)) at (bytes (min width widest) number) ⌝ }
 {
-    let mut place = smaller(width, WIDEST);
+    let mut place = lesser(width, WIDEST);
     let mut rest = number;
     while 0 < place {
         place -= 1;

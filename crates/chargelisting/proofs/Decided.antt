@@ -8,19 +8,20 @@ use Rattle.units.specs.Verdict.{Decided}
 use Rattle.units.proofs.Places.{PlacedTo, _then-if_, plainly}
 use Rattle.units.proofs.Verdicts.{AllNumbered, _and_, kept-by}
 use Rattle.lines.specs.declared.Listing.{Listing}
-use Rattle.lines.specs.Answer.{verdict, check, Listed}
+use Rattle.lines.specs.Answer.{listing-verdict, listing-check, ListingAnswered}
 use Rattle.lines.proofs.Decided.{listed-decided}
 use Rattle.dayfile.proofs.Reaching.{most-file}
 use Rattle.dayfile.proofs.Decided.{file-numbered, file-placed}
-use Rattle.chargelisting.specs.ChargesText.{charges-check, file-text}
+use Rattle.chargelisting.specs.ChargesText.{charges-check, charges-listing}
 
 charges-numbered : (rate : Rate) (file : List ℕ) → AllNumbered (charges-check rate file)
 unfolding charges-check
 charges-numbered rate file = kept-by _ 3 tt tt and file-numbered file
 
 pub charges-decided : (rate : Rate) (file : List ℕ) {lent after : List ℕ} {listing : Listing}
-    → Listed (charges-check rate file) (file-text rate file) lent after listing
-    → Decided (check (charges-check rate file) (file-text rate file) (length lent)) (length (file-text rate file)) 0 (verdict listing)
+    → ListingAnswered (charges-check rate file) (charges-listing rate file) lent after listing
+    → Decided (listing-check (charges-check rate file) (charges-listing rate file) (length lent))
+    (length (charges-listing rate file)) 0 (listing-verdict listing)
 charges-decided rate file = listed-decided (charges-numbered rate file)
 
 pub charges-placed : (rate : Rate) (file : List ℕ) → PlacedTo most-file (charges-check rate file)

@@ -3,3 +3,5 @@ pub mod Decided
 pub mod HeadLine
 pub mod Rated
 pub mod Sizes
+pub mod OverrunsAccept
+pub mod ChargesAccept

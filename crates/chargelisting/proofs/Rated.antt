@@ -9,21 +9,21 @@ use Rattle.units.specs.Bound.{most-rate}
 use Rattle.units.specs.Refusals.{plain, _then_, keep}
 use Rattle.lines.specs.declared.Listing.{Listing}
 use Rattle.lines.specs.declared.Listing.the-variants.{Refused}
-use Rattle.lines.specs.Answer.{Listed}
-use Rattle.lines.specs.Answer as lines
+use Rattle.lines.specs.Answer.{ListingAnswered, listing-check}
 use Rattle.dayruns.specs.Walk.{file-check}
 use Rattle.dayfile.specs.File.{walked}
 use Rattle.chargelisting.specs.ChargesText.{charges-check}
 
 module _ (rate : Rate) (file text lent : List ℕ) where
   pub rate-refused : (refusal : Refusal) → refusal ≡ plain 3 → most-rate < rate .0
-      → Listed (charges-check rate file) text lent lent (Refused refusal)
-  unfolding charges-check lines.check _then_ keep
+      → ListingAnswered (charges-check rate file) text lent lent (Refused refusal)
+  unfolding charges-check listing-check _then_ keep
   rate-refused refusal e l =
       let beyond = lt-leb (rate .0) most-rate l in
       record { answers = rw (beyond, e); leaves = rw beyond }
 
   pub file-decides : rate .0 ≤ most-rate → {after : List ℕ} {listing : Listing}
-      → Listed (file-check (walked file)) text lent after listing → Listed (charges-check rate file) text lent after listing
+      → ListingAnswered (file-check (walked file)) text lent after listing → ListingAnswered
+      (charges-check rate file) text lent after listing
   unfolding charges-check _then_ keep
   file-decides h L = rw (le-leb (rate .0) most-rate h) L

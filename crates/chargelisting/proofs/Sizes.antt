@@ -6,6 +6,7 @@ use native.Mathlib.Nat.{le-refl, le-trans, mul-le-mul}
 use native.Mathlib.Omega.{arith}
 use borrow.Author.Tests.{leb-true}
 use lib.ListN.{length, length-append}
+use Rattle.columns.specs.Column.{joined}
 use Rattle.units.specs.declared.Megajoules.{Megajoules}
 use Rattle.units.specs.declared.Rate.{Rate}
 use Rattle.units.specs.declared.refusal.Check.the-variants.{Accepted}
@@ -13,27 +14,26 @@ use Rattle.units.specs.Bound.{most-chargeable, most-rate}
 use Rattle.units.proofs.Checks.{both-accepted, kept}
 use Rattle.lines.specs.Line.{line, decimals}
 use Rattle.lines.proofs.Sizes.{line-none, line-within, figure-within}
-use Rattle.overruns.specs.Day.{ShipperDay, day-answer, verdict as day-verdict}
+use Rattle.overruns.specs.Day.{ShipperDay, day-answer, day-verdict}
 use Rattle.overruns.proofs.Promises.{day-kept}
 use Rattle.tariff.specs.HalfUp.{half-up}
-use Rattle.tariff.specs.Charges.{overrun-cents, overrun-charge, verdict as charge-verdict}
+use Rattle.tariff.specs.Charges.{overrun-cents, overrun-charge, charge-verdict}
 use Rattle.dayformat.specs.declared.day.Day.{Day}
 use Rattle.dayformat.specs.declared.form.Tag.the-variants.{Meter}
 use Rattle.dayformat.specs.Format.{column-in}
 use Rattle.dayformat.specs.Layout.{count}
-use Rattle.dayformat.specs.Table.{joined}
 use Rattle.dayruns.proofs.Ending.{faultless}
 use Rattle.dayfile.specs.File.{tables, walked}
 use Rattle.dayfile.specs.Answer.{day-of}
-use Rattle.daywriter.proofs.Accepting.{Sound}
-use Rattle.roundtrip.proofs.FileAgain.{day-number}
+use Rattle.dayrows.specs.Private.{Sound}
+use Rattle.dayfile.proofs.FileAgain.{day-number, read-sound}
 use Rattle.daymeters.specs.Figures.{meter-figures}
-use Rattle.listings.specs.MeterDay.{shipper-day}
-use Rattle.listings.proofs.Lines.{texts-most}
-use Rattle.listings.proofs.ReadSound.{read-sound, sound-number}
-use Rattle.listings.proofs.OverrunsAccept.{meter-accepts}
-use Rattle.listings.proofs.ChargesAccept.{charges-accept}
-use Rattle.chargelisting.specs.ChargesText.{rate-word, head-line, charge-figures, charges-text, charges-check, file-text}
+use Rattle.chargelisting.specs.MeterDay.{shipper-day}
+use Rattle.lines.proofs.Texts.{texts-most}
+use Rattle.dayvalues.proofs.Sounds.{sound-number}
+use Rattle.chargelisting.proofs.OverrunsAccept.{figures-had}
+use Rattle.chargelisting.proofs.ChargesAccept.{charges-accept}
+use Rattle.chargelisting.specs.ChargesText.{rate-word, head-line, charge-figures, charges-text, charges-check, charges-listing}
 
 -- the most that an overrun can cost, in cents
 abbrev pub most-cents : ℕ
@@ -71,7 +71,7 @@ module _ (rate : Rate) (kept-rate : rate .0 ≤ most-rate) where
   module _ (day : Day) (numbers : List ℕ) (S : Sound day numbers) where
     shipper-small : (row : ℕ) → row < count (day .counts) Meter → meter-figures (day .counts) numbers row .shipper ≤ 65_535
     unfolding column-in
-    shipper-small row l = rw (meter-accepts day numbers S row l) (sound-number day numbers S Meter tt row l 0 (omega arith))
+    shipper-small row l = rw (figures-had day numbers S row l) (sound-number day numbers S Meter tt row l 0 (omega arith))
 
     abbrev row-line : ℕ → List ℕ
     row-line row = line (decimals (charge-figures rate (day .counts) numbers row))
@@ -98,7 +98,7 @@ module _ (rate : Rate) (kept-rate : rate .0 ≤ most-rate) where
           S .few Meter,
         )
 
-pub text-most : (rate : Rate) (file : List ℕ) → charges-check rate file ≡ Accepted → length (file-text rate file) ≤ 8_192
+pub text-most : (rate : Rate) (file : List ℕ) → charges-check rate file ≡ Accepted → length (charges-listing rate file) ≤ 8_192
 unfolding charges-check
 text-most rate file accepted =
     let both = both-accepted _ _ accepted in

@@ -2,6 +2,7 @@
 use mathlib.Core.List.{List, [], _∷_, _++_}
 use Prim.Native.Nat.{ℕ}
 use lib.Dec.{leb}
+use Rattle.columns.specs.Column.{joined}
 use Rattle.text.specs.Text.{decimal}
 use Rattle.units.specs.declared.Rate.{Rate}
 use Rattle.units.specs.declared.refusal.Check.{Check}
@@ -9,18 +10,17 @@ use Rattle.units.specs.Bound.{most-rate}
 use Rattle.units.specs.Refusals.{_then_, keep}
 use Rattle.lines.specs.Line.{line, decimals, day-word}
 use Rattle.overruns.specs.declared.day.Overruns.{Overruns}
-use Rattle.overruns.specs.Day.{day-answer, verdict as day-verdict}
-use Rattle.tariff.specs.Charges.{overrun-charge, verdict as charge-verdict}
+use Rattle.overruns.specs.Day.{day-answer, day-verdict}
+use Rattle.tariff.specs.Charges.{overrun-charge, charge-verdict}
 use Rattle.dayformat.specs.declared.day.Day.{Day}
 use Rattle.dayformat.specs.declared.form.Tag.the-variants.{Meter}
 use Rattle.dayformat.specs.declared.layout.Counts.{Counts}
 use Rattle.dayformat.specs.Layout.{count}
-use Rattle.dayformat.specs.Table.{joined}
 use Rattle.dayruns.specs.Walk.{file-check}
 use Rattle.dayfile.specs.File.{tables, walked}
 use Rattle.dayfile.specs.Answer.{day-of}
 use Rattle.daymeters.specs.Figures.{meter-figures}
-use Rattle.listings.specs.MeterDay.{shipper-day}
+use Rattle.chargelisting.specs.MeterDay.{shipper-day}
 
 -- RATE
 abbrev pub rate-word : List ℕ
@@ -56,5 +56,5 @@ charges-text rate day numbers = head-line (day .head .day) rate ++ meter-lines r
 unfoldable pub charges-check : Rate → List ℕ → Check
 charges-check rate file = keep (leb (rate .0) most-rate) 3 then file-check (walked file)
 
-abbrev pub file-text : Rate → List ℕ → List ℕ
-file-text rate file = charges-text rate (day-of file) (tables file .numbers)
+abbrev pub charges-listing : Rate → List ℕ → List ℕ
+charges-listing rate file = charges-text rate (day-of file) (tables file .numbers)

@@ -1,1 +1,2 @@
 pub mod ChargesText
+pub mod MeterDay

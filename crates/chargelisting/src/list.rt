@@ -3,25 +3,22 @@ use crate::chargestext::put_charges;
 use dayfile::Reading;
 use dayfile::read_day;
 use dayformat::Day;
+use dayformat::MOST_NUMBERS;
 use dayformat::numbers_of;
 use lines::Listing;
 use units::MOST_RATE;
 use units::Rate;
 use units::Refusal;
-ghost use mathlib.Core.Path.{_≡_};
 ghost use Rattle.units.specs.declared.refusal.Check.the-variants.{Accepted};
-ghost use Rattle.lines.specs.Answer.{Listed};
-ghost use Rattle.daywriter.specs.Acceptance.{sound};
+ghost use Rattle.lines.specs.Answer.{ListingAnswered};
+ghost use Rattle.dayrows.specs.Private.{Sound};
 ghost use Rattle.dayfile.specs.File.{walked};
 ghost use Rattle.dayruns.specs.Walk.{file-check};
-ghost use Rattle.chargelisting.specs.ChargesText.{charges-text, charges-check, file-text};
-
-// How many numbers a day has at most.
-const MOST_NUMBERS: usize = 6_880;
+ghost use Rattle.chargelisting.specs.ChargesText.{charges-text, charges-check, charges-listing};
 
 // Lists a day file's overrun charges at a rate: the text goes to the front of a lent block.
 pub fn list_charges(file: &[u8], rate: Rate, lent: &mut [u8]) -> Listing
-    ensures { λ r. ⌜ Listed (charges-check rate (now (file .entry))) (file-text rate (now (file .entry)))
+    ensures { λ r. ⌜ ListingAnswered (charges-check rate (now (file .entry))) (charges-listing rate (now (file .entry)))
         (now (lent .entry)) (now (lent .exit)) r ⌝ }
 {
     if MOST_RATE.0 < rate.0 {
@@ -31,7 +28,7 @@ pub fn list_charges(file: &[u8], rate: Rate, lent: &mut [u8]) -> Listing
 }
 
 fn list_file(file: &[u8], rate: Rate, lent: &mut [u8]) -> Listing
-    ensures { λ r. ⌜ Listed (file-check (walked (now (file .entry)))) (file-text rate (now (file .entry)))
+    ensures { λ r. ⌜ ListingAnswered (file-check (walked (now (file .entry)))) (charges-listing rate (now (file .entry)))
         (now (lent .entry)) (now (lent .exit)) r ⌝ }
 {
     let mut numbers = [0usize; MOST_NUMBERS];
@@ -47,8 +44,8 @@ fn list_file(file: &[u8], rate: Rate, lent: &mut [u8]) -> Listing
 
 // A sound day's listing; 7 exactly when its text is longer than the block. Laid from the block's end on, it is only counted.
 fn list_day(day: Day, rate: Rate, numbers: &[usize], lent: &mut [u8]) -> Listing
-    requires { ⌜ sound day (now numbers) ≡ Accepted ⌝ }
-    ensures { λ r. ⌜ Listed Accepted (charges-text rate day (now (numbers .entry))) (now (lent .entry)) (now (lent .exit)) r ⌝ }
+    requires { ⌜ Sound day (now numbers) ⌝ }
+    ensures { λ r. ⌜ ListingAnswered Accepted (charges-text rate day (now (numbers .entry))) (now (lent .entry)) (now (lent .exit)) r ⌝ }
 {
     let room = lent.len();
     let size = put_charges(day, rate, numbers, lent, room);

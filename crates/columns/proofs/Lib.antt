@@ -1,3 +1,4 @@
 pub mod Sums
 pub mod Lists
 pub mod Firsts
+pub mod Joined

@@ -11,3 +11,8 @@ col xs i = getD xs i 0
 unfoldable pub listed : ℕ → (ℕ → ℕ) → List ℕ
 listed zero f = []
 listed (suc n) f = listed n f ++ (f n ∷ [])
+
+-- n lists, one after another
+unfoldable pub joined : ℕ → (ℕ → List ℕ) → List ℕ
+joined zero f = []
+joined (suc n) f = joined n f ++ f n

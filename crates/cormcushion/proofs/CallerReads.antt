@@ -14,99 +14,99 @@ use Rattle.units.proofs.Checks.{both-accepted}
 use Rattle.units.proofs.Places.{PlacedTo}
 use Rattle.units.proofs.Verdicts.{checked}
 use Rattle.sharing.proofs.Levels.{level-is}
-use Rattle.lines.specs.Answer as lines
+use Rattle.lines.specs.Answer.{listing-answer, listing-check, listing-verdict}
 use Rattle.lines.proofs.Decided.{listed-placed}
-use Rattle.rounds.specs.Answer as rounds
+use Rattle.rounds.specs.Answer.{round-answer, round-verdict}
 use Rattle.rounds.proofs.Decided.{round-decided, round-placed}
 use Rattle.daytable.specs.Table.{Table}
 use Rattle.daytable.proofs.Accepting.{accepting}
 use Rattle.daytable.proofs.Decided.{table-placed}
-use Rattle.dayshares.specs.Answer as dayshares
+use Rattle.dayshares.specs.Answer.{shares-answer, shares-verdict}
 use Rattle.dayshares.proofs.Decided.{day-decided}
 use Rattle.dayformat.specs.Layout.{numbers-in}
 use Rattle.dayruns.specs.Walk.{file-check}
 use Rattle.dayfile.specs.File.{walked}
-use Rattle.dayfile.specs.Answer as reader
+use Rattle.dayfile.specs.Answer.{reading-answer, reading-verdict}
 use Rattle.dayfile.proofs.Reaching.{most-file, numbers-most}
 use Rattle.dayfile.proofs.Decided.{file-numbered, file-placed, reading-placed, reading-decided}
-use Rattle.sharelisting.specs.SharesText as shares
+use Rattle.sharelisting.specs.SharesText.{shares-listing}
 use Rattle.sharelisting.proofs.Decided.{shares-decided}
 use Rattle.sharelisting.proofs.Sizes as shares-sizes
-use Rattle.chargelisting.specs.ChargesText as charges
+use Rattle.chargelisting.specs.ChargesText.{charges-check, charges-listing}
 use Rattle.chargelisting.proofs.Decided.{charges-decided, charges-placed}
 use Rattle.chargelisting.proofs.Sizes as charges-sizes
-use Rattle.pointlisting.specs.PointsText as points
+use Rattle.pointlisting.specs.PointsText.{points-listing}
 use Rattle.pointlisting.proofs.Decided.{points-decided}
 use Rattle.pointlisting.proofs.Sizes as points-sizes
-use Rattle.cormcushion.specs.Packed.{of-check, Reads}
+use Rattle.cormcushion.specs.Packed.{packed-check, Reads}
 use Rattle.cormcushion.specs.Answers.{of-listing, of-reading, of-round, of-shares}
-use Rattle.cormcushion.specs.Lent.{Listed, DayRead, RoundShared, DayShared}
-use Rattle.cormcushion.specs.Meter.{shipper-day, charge-check, charge-cents, Charged}
+use Rattle.cormcushion.specs.Lent.{ListingPacked, ReadingPacked, RoundPacked, SharesPacked}
+use Rattle.cormcushion.specs.Meter.{shipper-day, charge-check, charge-cents, ChargePacked}
 use Rattle.cormcushion.proofs.ChargeTests.{charge-numbered, charge-placed, charge-packs, charge-most}
 use Rattle.cormcushion.proofs.Unpacking.{most-figure, found-reads, answer-reads}
 
 -- ---- capacity: the level of a round, LEFT of a day
-pub round-reads : {c : ℕ} {ws qs lent after : List ℕ} {packed : ℕ} (R : RoundShared c ws qs lent packed after)
-    → Reads packed (rounds.verdict (R .round)) (λ given. given .level)
+pub round-reads : {c : ℕ} {ws qs lent after : List ℕ} {packed : ℕ} (R : RoundPacked c ws qs lent packed after)
+    → Reads packed (round-verdict (R .round)) (λ given. given .level)
 round-reads {c} {ws} {qs} {lent} R =
     answer-reads (round-decided (R .answers)) (λ given. given .level) (round-placed c ws qs (length lent)) (omega arith)
     (λ accepted. omega (arith, level-is (length ws) (col ws) (col qs) c .capped))
-    rounds.answer of-round refl (λ refusal. refl) (R .answers .answers) (R .packs)
+    round-answer of-round refl (λ refusal. refl) (R .answers .answers) (R .packs)
 
 pub shares-reads : {T : Table} {firm auction lower-tier levels firm-after auction-after lower-tier-after levels-after : List ℕ}
-    {packed : ℕ} (D : DayShared T firm auction lower-tier levels packed firm-after auction-after lower-tier-after levels-after)
-    → Reads packed (dayshares.verdict (D .day)) (λ given. given .left .0)
+    {packed : ℕ} (D : SharesPacked T firm auction lower-tier levels packed firm-after auction-after lower-tier-after levels-after)
+    → Reads packed (shares-verdict (D .day)) (λ given. given .left .0)
 shares-reads {T} D =
     answer-reads (day-decided (D .answers)) (λ given. given .left .0) (table-placed T _ _ _) (omega arith)
     (λ accepted. let B = accepting T _ _ _ accepted .bounded in omega (arith, B .free-flow, B .compressor))
-    dayshares.answer of-shares refl (λ refusal. refl) (D .answers .answers) (D .packs)
+    shares-answer of-shares refl (λ refusal. refl) (D .answers .answers) (D .packs)
 
 -- ---- a day's file: how many numbers it has
-pub check-reads : (file : List ℕ) {packed : ℕ} → packed ≡ of-check (file-check (walked file)) (numbers-in (walked file .counts))
+pub check-reads : (file : List ℕ) {packed : ℕ} → packed ≡ packed-check (file-check (walked file)) (numbers-in (walked file .counts))
     → Reads packed (check-verdict (file-check (walked file))) (λ none. numbers-in (walked file .counts))
 check-reads file =
     found-reads (checked (file-numbered file) refl) (λ none. numbers-in (walked file .counts)) (file-placed file) (omega arith)
     (λ accepted. omega (arith, numbers-most file))
 
-pub reading-reads : {file day lent day-after after : List ℕ} {packed : ℕ} (R : DayRead file day lent packed day-after after)
-    → Reads packed (reader.verdict (R .reading)) (λ day. numbers-in (day .counts))
+pub reading-reads : {file day lent day-after after : List ℕ} {packed : ℕ} (R : ReadingPacked file day lent packed day-after after)
+    → Reads packed (reading-verdict (R .reading)) (λ day. numbers-in (day .counts))
 reading-reads {file} {lent = lent} R =
     answer-reads (reading-decided (R .answers)) (λ day. numbers-in (day .counts)) (reading-placed file (length lent)) (omega arith)
-    (λ accepted. omega (arith, numbers-most file)) reader.answer of-reading refl (λ refusal. refl) (R .answers .answers) (R .packs)
+    (λ accepted. omega (arith, numbers-most file)) reading-answer of-reading refl (λ refusal. refl) (R .answers .answers) (R .packs)
 
 -- ---- listings: the size of a text
-listing-reads : {tests : Check} {text lent after : List ℕ} {packed : ℕ} (L : Listed tests text lent after packed)
+listing-reads : {tests : Check} {text lent after : List ℕ} {packed : ℕ} (L : ListingPacked tests text lent after packed)
     → PlacedTo most-file tests → (tests ≡ Accepted → length text ≤ most-figure)
-    → Decided (lines.check tests text (length lent)) (length text) 0 (lines.verdict (L .listing))
-    → Reads packed (lines.verdict (L .listing)) (λ size. size)
-unfolding lines.check
+    → Decided (listing-check tests text (length lent)) (length text) 0 (listing-verdict (L .listing))
+    → Reads packed (listing-verdict (L .listing)) (λ size. size)
+unfolding listing-check
 listing-reads {text = text} {lent} L placed small D =
     answer-reads D (λ size. size) (listed-placed text (length lent) placed) (omega arith)
     (λ accepted. small (both-accepted _ _ accepted .0))
-    lines.answer of-listing refl (λ refusal. refl) (L .answers .answers) (L .packs)
+    listing-answer of-listing refl (λ refusal. refl) (L .answers .answers) (L .packs)
 
 pub list-shares-reads : (file : List ℕ) {lent after : List ℕ} {packed : ℕ}
-    (L : Listed (file-check (walked file)) (shares.file-text file) lent after packed)
-    → Reads packed (lines.verdict (L .listing)) (λ size. size)
+    (L : ListingPacked (file-check (walked file)) (shares-listing file) lent after packed)
+    → Reads packed (listing-verdict (L .listing)) (λ size. size)
 list-shares-reads file L =
     listing-reads L (file-placed file) (λ accepted. omega (arith, shares-sizes.text-most file accepted)) (shares-decided file (L .answers))
 
 pub list-charges-reads : (rate : ℕ) (file : List ℕ) {lent after : List ℕ} {packed : ℕ}
-    (L : Listed (charges.charges-check (record { 0 = rate }) file) (charges.file-text (record { 0 = rate }) file) lent after packed)
-    → Reads packed (lines.verdict (L .listing)) (λ size. size)
+    (L : ListingPacked (charges-check (record { 0 = rate }) file) (charges-listing (record { 0 = rate }) file) lent after packed)
+    → Reads packed (listing-verdict (L .listing)) (λ size. size)
 list-charges-reads rate file L =
     listing-reads L (charges-placed _ file) (λ accepted. omega (arith, charges-sizes.text-most _ file accepted))
     (charges-decided _ file (L .answers))
 
 pub list-points-reads : (file : List ℕ) {lent after : List ℕ} {packed : ℕ}
-    (L : Listed (file-check (walked file)) (points.file-text file) lent after packed)
-    → Reads packed (lines.verdict (L .listing)) (λ size. size)
+    (L : ListingPacked (file-check (walked file)) (points-listing file) lent after packed)
+    → Reads packed (listing-verdict (L .listing)) (λ size. size)
 list-points-reads file L =
     listing-reads L (file-placed file) (λ accepted. omega (arith, points-sizes.text-most file accepted)) (points-decided file (L .answers))
 
 -- ---- a shipper's day: the charge in cents
 pub charge-reads : (rate p m : ℕ) (yesterday delivered received schedules metered : List ℕ) {lent after : List ℕ} {packed : ℕ}
-    → Charged rate (shipper-day p m yesterday delivered received schedules metered) lent packed after
+    → ChargePacked rate (shipper-day p m yesterday delivered received schedules metered) lent packed after
     → Reads packed (check-verdict (charge-check rate (shipper-day p m yesterday delivered received schedules metered)))
     (λ none. charge-cents rate (shipper-day p m yesterday delivered received schedules metered))
 charge-reads rate p m yesterday delivered received schedules metered C =

@@ -20,14 +20,14 @@ use Rattle.units.proofs.Checks.{both-accepted, kept}
 use Rattle.units.proofs.Places.{PlacedTo}
 use Rattle.units.proofs.Verdicts.{Refuses, refuses-none, refuses-then, refuses-keep, refuses-clear, AllNumbered}
 use Rattle.metered.specs.declared.Side.{Side}
-use Rattle.metered.specs.Hours.{figures, delivered, received, rows-check}
+use Rattle.metered.specs.Hours.{bare-hours, delivered, received, hours-check}
 use Rattle.metered.specs.Singles.{mdqs-check, side-check, sides-check}
 use Rattle.overruns.specs.Day.{ShipperDay, day-overruns, day-check, day-where, day-answer}
 use Rattle.overruns.proofs.Promises.{day-kept}
 use Rattle.tariff.proofs.Charged.{overrun-charged}
-use Rattle.listings.proofs.OverrunsAccept.{same-figures}
+use Rattle.chargelisting.proofs.OverrunsAccept.{same-figures}
 use Rattle.chargelisting.proofs.Sizes.{most-cents, cents-most}
-use Rattle.cormcushion.specs.Packed.{of-check}
+use Rattle.cormcushion.specs.Packed.{packed-check}
 use Rattle.cormcushion.specs.Meter.{hours-of, shipper-day, rate-of, of-charge, of-overruns, rate-check, of-rated, charge-check, charge-cents}
 
 -- ---- 3 alone
@@ -59,15 +59,15 @@ sides-third : (receipt delivery : Side) → Refuses Third (sides-check receipt d
 unfolding sides-check
 sides-third receipt delivery = side-third receipt also side-third delivery
 
-rows-third : (rows : List (List Megajoules)) → length (delivered rows) ≤ 24 → length (received rows) ≤ 24 → Refuses Third (rows-check rows)
-unfolding rows-check
+rows-third : (rows : List (List Megajoules)) → length (delivered rows) ≤ 24 → length (received rows) ≤ 24 → Refuses Third (hours-check rows)
+unfolding hours-check
 rows-third rows d r = no-test also hours (delivered rows) d also hours (received rows) r
 
 module _ (rate p m : ℕ) (yesterday delivered received schedules metered : List ℕ) where
   abbrev D : ShipperDay
   D = shipper-day p m yesterday delivered received schedules metered
 
-  hours-long : (many : ℕ) (list : List ℕ) → length (figures (hours-of many list)) ≡ many
+  hours-long : (many : ℕ) (list : List ℕ) → length (bare-hours (hours-of many list)) ≡ many
   hours-long many list = rw same-figures (length-listed many (col list))
 
   charge-third : Refuses Third (charge-check rate D)
@@ -77,7 +77,7 @@ module _ (rate p m : ℕ) (yesterday delivered received schedules metered : List
       also
       (mdqs-third (D .p) (D .m)
       also sides-third (D .receipt) (D .delivery)
-      also hours (figures (D .yesterday)) (omega (arith, hours-long 11 yesterday))
+      also hours (bare-hours (D .yesterday)) (omega (arith, hours-long 11 yesterday))
       also rows-third (D .hours) (omega (arith, hours-long 24 delivered)) (omega (arith, hours-long 24 received)))
 
   pub charge-numbered : AllNumbered (charge-check rate D)
@@ -96,17 +96,17 @@ module _ (rate : ℕ) (D : ShipperDay) where
   greatest-kept : day-check D ≡ Accepted → day-overruns D .greatest .0 ≤ most-chargeable
   greatest-kept e = rw e at (day-kept D refl) .chargeable
 
-  pub charge-packs : of-rated (rate-check rate) (of-overruns rate (day-answer D)) ≡ of-check (charge-check rate D) (charge-cents rate D)
+  pub charge-packs : of-rated (rate-check rate) (of-overruns rate (day-answer D)) ≡ packed-check (charge-check rate D) (charge-cents rate D)
   unfolding _then_
   charge-packs = by-rate (rate-check rate) refl
     where
       by-day : rate ≤ most-rate → (found : Check) → day-check D ≡ found
-          → of-overruns rate (day-where found (day-overruns D)) ≡ of-check found (charge-cents rate D)
+          → of-overruns rate (day-where found (day-overruns D)) ≡ packed-check found (charge-cents rate D)
       by-day l Accepted e = ap of-charge (overrun-charged (rate-of rate) (day-overruns D .greatest) l (greatest-kept e))
       by-day l (Refused refusal) e = refl
 
       by-rate : (found : Check) → rate-check rate ≡ found
-          → of-rated found (of-overruns rate (day-answer D)) ≡ of-check (found then day-check D) (charge-cents rate D)
+          → of-rated found (of-overruns rate (day-answer D)) ≡ packed-check (found then day-check D) (charge-cents rate D)
       by-rate Accepted e = by-day (rate-kept e) (day-check D) refl
       by-rate (Refused refusal) e = refl
 

@@ -10,15 +10,15 @@ use Rattle.units.specs.Refusals.{_then_, keep}
 use Rattle.overruns.specs.declared.day.DayOverruns.{DayOverruns}
 use Rattle.overruns.specs.Day.{ShipperDay, day-answer}
 use Rattle.cormcushion.specs.Packed.{refused}
-use Rattle.cormcushion.specs.Meter.{of-overruns, with-overruns, rate-check, Charged}
+use Rattle.cormcushion.specs.Meter.{of-overruns, with-overruns, rate-check, ChargePacked}
 
 module _ {rate : ℕ} {D : ShipperDay} {lent : List ℕ} {packed : ℕ} where
   pub refused-rate : {x : Refusal} → (Accepted then keep (leb rate most-rate) 3) ≡ Refused x → packed ≡ refused x
-      → Charged rate D lent packed lent
+      → ChargePacked rate D lent packed lent
   unfolding rate-check
   refused-rate is e = record { answers = rw is e; leaves = rw is }
 
   pub charged : {over : DayOverruns} {after : List ℕ} → (Accepted then keep (leb rate most-rate) 3) ≡ Accepted → over ≡ day-answer D
-      → packed ≡ of-overruns rate over → after ≡ with-overruns rate over lent → Charged rate D lent packed after
+      → packed ≡ of-overruns rate over → after ≡ with-overruns rate over lent → ChargePacked rate D lent packed after
   unfolding rate-check
   charged is day e l = record { answers = rw is (rw day at e); leaves = rw is (rw day at l) }

@@ -9,16 +9,16 @@ use Rattle.dayruns.specs.Walk.{file-check}
 use Rattle.dayfile.specs.declared.reader.Reading.{Reading}
 use Rattle.dayfile.specs.declared.reader.Reading.the-variants.{Refused, Read}
 use Rattle.dayfile.specs.File.{walked}
-use Rattle.dayfile.specs.Answer as reader
-use Rattle.roundtrip.proofs.OnRoutines.{told}
+use Rattle.dayfile.specs.Answer.{ReadingAnswered, reading-check}
+use Rattle.dayfile.proofs.Told.{told}
 use Rattle.listings.proofs.Listing.{file-refused}
-use Rattle.cormcushion.specs.Packed.{of-check}
+use Rattle.cormcushion.specs.Packed.{packed-check}
 use Rattle.cormcushion.specs.Answers.{of-reading}
 
 module _ (file lent after : List ℕ) (room : length lent ≡ 6_880) where
-  pub checked : (reading : Reading) → reader.Answered file lent after reading
-      → of-reading reading ≡ of-check (file-check (walked file)) (numbers-in (walked file .counts))
-  unfolding reader.check
+  pub checked : (reading : Reading) → ReadingAnswered file lent after reading
+      → of-reading reading ≡ packed-check (file-check (walked file)) (numbers-in (walked file .counts))
+  unfolding reading-check
   checked (Refused x) R = rw (file-refused file lent after room x R)
   checked (Read day) R =
       let is-read = told file lent after (Read day) R refl in

@@ -11,21 +11,21 @@ use Rattle.dayshares.proofs.Determined.{day-determined}
 use Rattle.dayfile.proofs.Determined.{reading-determined}
 use Rattle.overruns.specs.Day.{ShipperDay}
 use Rattle.cormcushion.specs.Answers.{of-listing, of-reading, of-round, of-shares, with-day, with-levels}
-use Rattle.cormcushion.specs.Lent.{Listed, DayRead, RoundShared, DayShared}
-use Rattle.cormcushion.specs.Meter.{Charged}
+use Rattle.cormcushion.specs.Lent.{ListingPacked, ReadingPacked, RoundPacked, SharesPacked}
+use Rattle.cormcushion.specs.Meter.{ChargePacked}
 
 -- what is computed from equal answers is equal
 same : {X Y : Type 0} {x y : X} {a b : Y} (f : X → Y) → a ≡ f x → b ≡ f y → x ≡ y → a ≡ b
 same f e h is = e ∙ ap f is ∙ sym h
 
 pub packed-listing-determined : {tests : Check} {text lent l₁ l₂ : List ℕ} {p₁ p₂ : ℕ}
-    → Listed tests text lent l₁ p₁ → Listed tests text lent l₂ p₂ → (p₁ ≡ p₂) × (l₁ ≡ l₂)
+    → ListingPacked tests text lent l₁ p₁ → ListingPacked tests text lent l₂ p₂ → (p₁ ≡ p₂) × (l₁ ≡ l₂)
 packed-listing-determined a b =
     let is = listed-determined (a .answers) (b .answers) in
     (same of-listing (a .packs) (b .packs) (is .0), is .1)
 
 pub packed-reading-determined : {file day lent d₁ d₂ l₁ l₂ : List ℕ} {p₁ p₂ : ℕ}
-    → DayRead file day lent p₁ d₁ l₁ → DayRead file day lent p₂ d₂ l₂ → (p₁ ≡ p₂) × (d₁ ≡ d₂) × (l₁ ≡ l₂)
+    → ReadingPacked file day lent p₁ d₁ l₁ → ReadingPacked file day lent p₂ d₂ l₂ → (p₁ ≡ p₂) × (d₁ ≡ d₂) × (l₁ ≡ l₂)
 packed-reading-determined {day = day} a b =
     let is = reading-determined (a .answers) (b .answers) in (
       same of-reading (a .packs) (b .packs) (is .0),
@@ -34,13 +34,13 @@ packed-reading-determined {day = day} a b =
     )
 
 pub packed-round-determined : {c : ℕ} {ws qs lent l₁ l₂ : List ℕ} {p₁ p₂ : ℕ}
-    → RoundShared c ws qs lent p₁ l₁ → RoundShared c ws qs lent p₂ l₂ → (p₁ ≡ p₂) × (l₁ ≡ l₂)
+    → RoundPacked c ws qs lent p₁ l₁ → RoundPacked c ws qs lent p₂ l₂ → (p₁ ≡ p₂) × (l₁ ≡ l₂)
 packed-round-determined a b =
     let is = round-determined (a .answers) (b .answers) in
     (same of-round (a .packs) (b .packs) (is .0), is .1)
 
 pub packed-shares-determined : {T : Table} {firm auction lower-tier levels f₁ f₂ a₁ a₂ l₁ l₂ v₁ v₂ : List ℕ} {p₁ p₂ : ℕ}
-    → DayShared T firm auction lower-tier levels p₁ f₁ a₁ l₁ v₁ → DayShared T firm auction lower-tier levels p₂ f₂ a₂ l₂ v₂
+    → SharesPacked T firm auction lower-tier levels p₁ f₁ a₁ l₁ v₁ → SharesPacked T firm auction lower-tier levels p₂ f₂ a₂ l₂ v₂
     → (p₁ ≡ p₂) × (f₁ ≡ f₂) × (a₁ ≡ a₂) × (l₁ ≡ l₂) × (v₁ ≡ v₂)
 packed-shares-determined {levels = levels} a b =
     let is = day-determined (a .answers) (b .answers) in (
@@ -52,5 +52,5 @@ packed-shares-determined {levels = levels} a b =
     )
 
 pub charge-determined : {rate : ℕ} {D : ShipperDay} {lent l₁ l₂ : List ℕ} {p₁ p₂ : ℕ}
-    → Charged rate D lent p₁ l₁ → Charged rate D lent p₂ l₂ → (p₁ ≡ p₂) × (l₁ ≡ l₂)
+    → ChargePacked rate D lent p₁ l₁ → ChargePacked rate D lent p₂ l₂ → (p₁ ≡ p₂) × (l₁ ≡ l₂)
 charge-determined a b = (determined (a .answers) (b .answers), determined (a .leaves) (b .leaves))

@@ -4,39 +4,39 @@ use mathlib.Core.List.{List}
 use Prim.Native.Nat.{ℕ}
 use Rattle.units.specs.declared.refusal.Check.{Check}
 use Rattle.lines.specs.declared.Listing.{Listing}
-use Rattle.lines.specs.Answer as lines
+use Rattle.lines.specs.Answer.{ListingAnswered}
 use Rattle.rounds.specs.declared.Round.{Round}
-use Rattle.rounds.specs.Answer as rounds
+use Rattle.rounds.specs.Answer.{RoundAnswered}
 use Rattle.daytable.specs.Table.{Table}
 use Rattle.dayshares.specs.declared.Day.{Day}
-use Rattle.dayshares.specs.Answer as dayshares
+use Rattle.dayshares.specs.Answer.{SharesAnswered}
 use Rattle.dayfile.specs.declared.reader.Reading.{Reading}
-use Rattle.dayfile.specs.Answer as reader
+use Rattle.dayfile.specs.Answer.{ReadingAnswered}
 use Rattle.cormcushion.specs.Answers.{of-listing, of-reading, of-round, of-shares, with-day, with-levels}
 
 -- a listing, from what the tests of its input find and its text
-pub record Listed (tests : Check) (text lent after : List ℕ) (packed : ℕ) : Type 0 where
+pub record ListingPacked (tests : Check) (text lent after : List ℕ) (packed : ℕ) : Type 0 where
   pub listing : Listing
-  pub answers : lines.Listed tests text lent after listing
+  pub answers : ListingAnswered tests text lent after listing
   pub packs : packed ≡ of-listing listing
 
 -- a day file read
-pub record DayRead (file day-lent lent : List ℕ) (packed : ℕ) (day-after after : List ℕ) : Type 0 where
+pub record ReadingPacked (file day-lent lent : List ℕ) (packed : ℕ) (day-after after : List ℕ) : Type 0 where
   pub reading : Reading
-  pub answers : reader.Answered file lent after reading
+  pub answers : ReadingAnswered file lent after reading
   pub packs : packed ≡ of-reading reading
   pub leaves-day : day-after ≡ with-day reading day-lent
 
 -- one sharing round
-pub record RoundShared (c : ℕ) (ws qs lent : List ℕ) (packed : ℕ) (after : List ℕ) : Type 0 where
+pub record RoundPacked (c : ℕ) (ws qs lent : List ℕ) (packed : ℕ) (after : List ℕ) : Type 0 where
   pub round : Round
-  pub answers : rounds.Answered c ws qs lent round after
+  pub answers : RoundAnswered c ws qs lent round after
   pub packs : packed ≡ of-round round
 
 -- a day's shares
-pub record DayShared (T : Table) (firm-lent auction-lent lower-tier-lent levels-lent : List ℕ) (packed : ℕ)
+pub record SharesPacked (T : Table) (firm-lent auction-lent lower-tier-lent levels-lent : List ℕ) (packed : ℕ)
     (firm-after auction-after lower-tier-after levels-after : List ℕ) : Type 0 where
   pub day : Day
-  pub answers : dayshares.Answered T firm-lent auction-lent lower-tier-lent day firm-after auction-after lower-tier-after
+  pub answers : SharesAnswered T firm-lent auction-lent lower-tier-lent day firm-after auction-after lower-tier-after
   pub packs : packed ≡ of-shares day
   pub leaves-levels : levels-after ≡ with-levels day levels-lent

@@ -87,6 +87,6 @@ abbrev pub charge-cents : ℕ → ShipperDay → ℕ
 charge-cents rate D = overrun-cents (rate-of rate) (day-overruns D .greatest) .0
 
 -- the statement of `cormcushion_overruns`
-pub record Charged (rate : ℕ) (D : ShipperDay) (lent : List ℕ) (packed : ℕ) (after : List ℕ) : Type 0 where
+pub record ChargePacked (rate : ℕ) (D : ShipperDay) (lent : List ℕ) (packed : ℕ) (after : List ℕ) : Type 0 where
   pub answers : packed ≡ of-rated (rate-check rate) (of-overruns rate (day-answer D))
   pub leaves : after ≡ accepted-or (rate-check rate) (with-overruns rate (day-answer D) lent) lent

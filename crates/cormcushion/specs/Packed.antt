@@ -39,6 +39,6 @@ pub record Reads {Figures : Type 0} (packed : ℕ) (verdict : Verdict Figures) (
   pub of-place : (verdict .number ≡ 0 → ⊥) → figure-in packed ≡ verdict .place
 
 -- ---- of what the tests find, with the value where they accept
-abbrev pub of-check : Check → ℕ → ℕ
-of-check Accepted value = accepted value
-of-check (Refused refusal) value = refused refusal
+abbrev pub packed-check : Check → ℕ → ℕ
+packed-check Accepted value = accepted value
+packed-check (Refused refusal) value = refused refusal

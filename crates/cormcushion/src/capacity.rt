@@ -8,7 +8,7 @@ use rounds::share_round;
 use units::Gigajoules;
 ghost use mathlib.Core.Path.{_≡_};
 ghost use Rattle.cormcushion.specs.Answers.{level-figures, with-levels};
-ghost use Rattle.cormcushion.specs.Lent.{RoundShared, DayShared};
+ghost use Rattle.cormcushion.specs.Lent.{RoundPacked, SharesPacked};
 
 // One sharing round: its level, with the shares at the front of the lent list.
 #[no_mangle]
@@ -18,7 +18,7 @@ pub extern "C" fn cormcushion_share_round(
     needs: &[u32],
     shares: &mut [u32],
 ) -> u64
-    ensures { λ r. ⌜ RoundShared capacity (now (weights .entry)) (now (needs .entry)) (now (shares .entry)) r (now (shares .exit)) ⌝ }
+    ensures { λ r. ⌜ RoundPacked capacity (now (weights .entry)) (now (needs .entry)) (now (shares .entry)) r (now (shares .exit)) ⌝ }
 {
     of_round(share_round(Gigajoules(capacity), weights, needs, shares))
 }
@@ -38,7 +38,7 @@ pub extern "C" fn cormcushion_share_day(
     lower_tier: &mut [u32],
     levels: &mut [u64; 5],
 ) -> u64
-    ensures { λ r. ⌜ DayShared
+    ensures { λ r. ⌜ SharesPacked
         (record {
           free-flow = «free_flow»;
           compressor = compressor;

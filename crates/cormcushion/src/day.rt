@@ -3,21 +3,19 @@ use crate::answers::of_reading;
 use dayfile::Reading;
 use dayfile::read_day;
 use dayformat::Day;
+use dayformat::MOST_NUMBERS;
 ghost use mathlib.Core.Path.{_≡_};
 ghost use Rattle.dayformat.specs.Layout.{numbers-in};
 ghost use Rattle.dayruns.specs.Walk.{file-check};
 ghost use Rattle.dayfile.specs.File.{walked};
-ghost use Rattle.cormcushion.specs.Packed.{of-check};
+ghost use Rattle.cormcushion.specs.Packed.{packed-check};
 ghost use Rattle.cormcushion.specs.Answers.{day-figures, with-day};
-ghost use Rattle.cormcushion.specs.Lent.{DayRead};
-
-// How many numbers a day has at most.
-const MOST_NUMBERS: usize = 6_880;
+ghost use Rattle.cormcushion.specs.Lent.{ReadingPacked};
 
 // The check of a day file alone: how many numbers its day has.
 #[no_mangle]
 pub extern "C" fn cormcushion_check_day(file: &[u8]) -> u64
-    ensures { λ r. ⌜ r ≡ of-check (file-check (walked (now (file .entry)))) (numbers-in (walked (now (file .entry)) .counts)) ⌝ }
+    ensures { λ r. ⌜ r ≡ packed-check (file-check (walked (now (file .entry)))) (numbers-in (walked (now (file .entry)) .counts)) ⌝ }
 {
     let mut numbers = [0usize; MOST_NUMBERS];
     of_reading(read_day(file, &mut numbers))
@@ -30,7 +28,7 @@ pub extern "C" fn cormcushion_read_day(
     day: &mut [u32; 7],
     numbers: &mut [usize],
 ) -> u64
-    ensures { λ r. ⌜ DayRead (now (file .entry)) (now (day .entry)) (now (numbers .entry)) r
+    ensures { λ r. ⌜ ReadingPacked (now (file .entry)) (now (day .entry)) (now (numbers .entry)) r
         (now (day .exit)) (now (numbers .exit)) ⌝ }
 {
     let reading = read_day(file, numbers);

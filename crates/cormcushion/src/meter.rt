@@ -19,7 +19,7 @@ ghost use Prim.Native.Nat.{_≤_};
 ghost use Rattle.overruns.specs.Day.{day-answer};
 ghost use Rattle.tariff.specs.Charges.{overrun-charge};
 ghost use Rattle.cormcushion.specs.Meter.{side-of, shipper-day, overrun-figures, rate-of};
-ghost use Rattle.cormcushion.specs.Meter.{of-charge, with-charge, of-overruns, with-overruns, Charged};
+ghost use Rattle.cormcushion.specs.Meter.{of-charge, with-charge, of-overruns, with-overruns, ChargePacked};
 
 // The charge in cents for the greatest of a day's four overruns, with the four and the greatest in `lent`.
 #[no_mangle]
@@ -34,7 +34,7 @@ pub extern "C" fn cormcushion_overruns(
     metered: &[u64; 2],
     lent: &mut [u64; 5],
 ) -> u64
-    ensures { λ r. ⌜ Charged rate
+    ensures { λ r. ⌜ ChargePacked rate
         (shipper-day p m (now (yesterday .entry)) (now (delivered .entry)) (now (received .entry))
         (now (schedules .entry)) (now (metered .entry)))
         (now (lent .entry)) r (now (lent .exit)) ⌝ }

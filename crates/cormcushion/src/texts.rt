@@ -3,15 +3,15 @@ use crate::answers::of_listing;
 use units::Rate;
 ghost use Rattle.dayfile.specs.File.{walked};
 ghost use Rattle.dayruns.specs.Walk.{file-check};
-ghost use Rattle.sharelisting.specs.SharesText as shares;
-ghost use Rattle.chargelisting.specs.ChargesText as charges;
-ghost use Rattle.pointlisting.specs.PointsText as points;
-ghost use Rattle.cormcushion.specs.Lent.{Listed};
+ghost use Rattle.sharelisting.specs.SharesText.{shares-listing};
+ghost use Rattle.chargelisting.specs.ChargesText.{charges-check, charges-listing};
+ghost use Rattle.pointlisting.specs.PointsText.{points-listing};
+ghost use Rattle.cormcushion.specs.Lent.{ListingPacked};
 
 // The listing of a day's shares.
 #[no_mangle]
 pub extern "C" fn cormcushion_list_shares(file: &[u8], text: &mut [u8]) -> u64
-    ensures { λ r. ⌜ Listed (file-check (walked (now (file .entry)))) (shares.file-text (now (file .entry)))
+    ensures { λ r. ⌜ ListingPacked (file-check (walked (now (file .entry)))) (shares-listing (now (file .entry)))
         (now (text .entry)) (now (text .exit)) r ⌝ }
 {
     of_listing(sharelisting::list_shares(file, text))
@@ -20,8 +20,8 @@ pub extern "C" fn cormcushion_list_shares(file: &[u8], text: &mut [u8]) -> u64
 // The listing of a day's expected overrun charges at a rate.
 #[no_mangle]
 pub extern "C" fn cormcushion_list_charges(file: &[u8], rate: u32, text: &mut [u8]) -> u64
-    ensures { λ r. ⌜ Listed (charges.charges-check (record { 0 = rate }) (now (file .entry)))
-        (charges.file-text (record { 0 = rate }) (now (file .entry)))
+    ensures { λ r. ⌜ ListingPacked (charges-check (record { 0 = rate }) (now (file .entry)))
+        (charges-listing (record { 0 = rate }) (now (file .entry)))
         (now (text .entry)) (now (text .exit)) r ⌝ }
 {
     of_listing(chargelisting::list_charges(file, Rate(rate), text))
@@ -30,7 +30,7 @@ pub extern "C" fn cormcushion_list_charges(file: &[u8], rate: u32, text: &mut [u
 // The listing of the hours at a day's points.
 #[no_mangle]
 pub extern "C" fn cormcushion_list_points(file: &[u8], text: &mut [u8]) -> u64
-    ensures { λ r. ⌜ Listed (file-check (walked (now (file .entry)))) (points.file-text (now (file .entry)))
+    ensures { λ r. ⌜ ListingPacked (file-check (walked (now (file .entry)))) (points-listing (now (file .entry)))
         (now (text .entry)) (now (text .exit)) r ⌝ }
 {
     of_listing(pointlisting::list_points(file, text))

@@ -16,10 +16,10 @@ use Rattle.bigendian.proofs.Rows.{length-decode}
 use Rattle.dayformat.specs.declared.form.Tag.{Tag}
 use Rattle.dayformat.specs.declared.form.Tag.the-variants.{Head, Shipper, Point, Entry, Meter}
 use Rattle.dayformat.specs.Format.{Several, body, column-in, numbers-of, widths, form}
-use Rattle.dayrows.specs.Test.{within, bounded}
+use Rattle.dayrows.specs.Test.{in-bounds, bounded}
 use Rattle.dayrows.proofs.Sound.{bounded-by}
 use Rattle.dayrows.proofs.Within.{bounded-each}
-use Rattle.daybodies.specs.Kind.{AllWithin, KindRead}
+use Rattle.daybodies.specs.Private.{AllWithin, KindRead}
 
 -- ---- a body's widths are those of its kinds
 abbrev kind-widths : List Several → List ℕ
@@ -74,7 +74,7 @@ kind-long many width list = length-decode (replicate many width) list ∙ length
 -- ---- kinds read one after another
 -- each of so many numbers is within the bounds of its own kind
 abbrev AllInside : List Several → List ℕ → Type 0
-AllInside kinds numbers = (place : ℕ) → place < numbers-of kinds → within (column-in kinds place) (col numbers place) ≡ true
+AllInside kinds numbers = (place : ℕ) → place < numbers-of kinds → in-bounds (column-in kinds place) (col numbers place) ≡ true
 
 pub record KindsRead (kinds : List Several) (file : List ℕ) (at : ℕ) (lent : List ℕ) (to : ℕ) (before : Bool) (after : List ℕ) (kept : Bool)
     : Type 0 where
@@ -104,13 +104,13 @@ module _ (several : Several) (rest : List Several) (file : List ℕ) {at to next
 
   -- the number at a place is of this kind, or of those after it
   abbrev inside : ℕ → Bool
-  inside i = within (column-in (several ∷ rest) i) (col (these ++ those) i)
+  inside i = in-bounds (column-in (several ∷ rest) i) (col (these ++ those) i)
 
-  inside-these : (i : ℕ) → i < several .many → inside i ≡ within (several .kind) (col these i)
+  inside-these : (i : ℕ) → i < several .many → inside i ≡ in-bounds (several .kind) (col these i)
   unfolding column-in
   inside-these i l = rw (lt-ltb i (several .many) l, List·getD-append these those 0 i (omega (arith, l, long)))
 
-  inside-those : (i : ℕ) → inside (several .many + i) ≡ within (column-in rest i) (col those i)
+  inside-those : (i : ℕ) → inside (several .many + i) ≡ in-bounds (column-in rest i) (col those i)
   unfolding column-in
   inside-those i =
       let past : several .many + i - several .many ≡ i = omega arith in
@@ -167,9 +167,9 @@ module _ (tag : Tag) {file : List ℕ} {at : ℕ} {lent : List ℕ} {to : ℕ} {
       ap (λ list. col list (to + place)) lays ∙ col-laid row lent to place (omega (arith, room, row-long)) (omega (arith, l, row-long))
 
   same : (place : ℕ) → place < form tag .columns
-      → within (column-in (body tag) place) (col after (to + place))
-      ≡ within (column-in (body tag) place) (col (decode (kind-widths (body tag)) (drop at file)) place)
-  same place l = ap (within (column-in (body tag) place)) (number place l ∙ rw widths-are)
+      → in-bounds (column-in (body tag) place) (col after (to + place))
+      ≡ in-bounds (column-in (body tag) place) (col (decode (kind-widths (body tag)) (drop at file)) place)
+  same place l = ap (in-bounds (column-in (body tag) place)) (number place l ∙ rw widths-are)
 
   -- the kinds keep their bounds where the row does
   pub bounds : kept ≡ bounded (col after) tag to

@@ -15,9 +15,9 @@ use Rattle.bigendian.specs.Number.{value, widest}
 use Rattle.bigendian.specs.Row.{decode}
 use Rattle.bigendian.proofs.Rows.{length-decode}
 use Rattle.dayformat.specs.declared.form.Column.{Column}
-use Rattle.dayrows.specs.Test.{within}
+use Rattle.dayrows.specs.Test.{in-bounds}
 use Rattle.dayrows.proofs.Within.{within-bounds}
-use Rattle.daybodies.specs.Kind.{numbers-at, AllWithin, KindRead}
+use Rattle.daybodies.specs.Private.{numbers-at, AllWithin, KindRead}
 
 -- the number at a place of numbers of one width
 number-of-list : (many width place : ℕ) (list : List ℕ) → place < many
@@ -93,7 +93,7 @@ module _ (file : List ℕ) (at many : ℕ) (column : Column) (lent : List ℕ) (
             (sym (number-of-file many (column .width) place at file l))
 
         within-here : column .low ≤ number → number ≤ column .high
-            → within column (col (numbers-at column many file at) place) ≡ true
+            → in-bounds column (col (numbers-at column many file at) place) ≡ true
         within-here low high = rw (← read, le-leb (column .low) number low, le-leb number (column .high) high)
 
     pub reading-all : many ≤ place → KindRead file at many column lent to before list kept

@@ -5,6 +5,7 @@ use dayfields::breaks;
 use dayformat::BACKHAUL;
 use dayformat::Counts;
 use dayformat::GIGAJOULES;
+use dayformat::HEADER;
 use dayformat::HOUR;
 use dayformat::NAME;
 use dayformat::SIDE;
@@ -19,6 +20,28 @@ ghost use lib.ListN.{length};
 ghost use Rattle.columns.specs.Column.{col};
 ghost use Rattle.dayrows.specs.Test.{starved};
 ghost use Rattle.daybodies.specs.Body.{ready, BodyRead};
+
+// Where in its field a body's numbers begin behind those of its first kinds.
+const BEHIND_NAME: usize = HEADER + NAME.width;
+
+const BEHIND_SIDE: usize = HEADER + SIDE.width;
+
+const BEHIND_POINT: usize = BEHIND_SIDE + NAME.width;
+
+const BEHIND_NAMES: usize = BEHIND_SIDE + 2 * NAME.width;
+
+const BEHIND_MDQS: usize = BEHIND_NAME + 2 * GIGAJOULES.width;
+
+const BEHIND_HOURS: usize = BEHIND_MDQS + HOURS * HOUR.width;
+
+const BEHIND_SCHEDULES: usize = BEHIND_HOURS + 4 * GIGAJOULES.width;
+
+// A meter's hours: 11 delivered ones of yesterday, 24 delivered, 24 received; so where its schedules and backhaul stand in the row.
+const HOURS: usize = 11 + 24 + 24;
+
+const SCHEDULES_AT: usize = 3 + HOURS;
+
+const BACKHAUL_AT: usize = SCHEDULES_AT + 4;
 
 fn both(x: bool, y: bool) -> bool
     ensures { λ r. ⌜ r ≡ cond x y false ⌝ }
@@ -59,8 +82,16 @@ pub fn read_shipper(counts: Counts, file: &[u8], at: usize, row: u32, numbers: &
         return false;
     }
     let to = row_place(counts, Tag::Shipper, row);
-    let shipper = read_kind(file, at + 3, 1, NAME, numbers, to, true);
-    let kept = read_kind(file, at + 5, 5, GIGAJOULES, numbers, to + 1, shipper);
+    let shipper = read_kind(file, at + HEADER, 1, NAME, numbers, to, true);
+    let kept = read_kind(
+        file,
+        at + BEHIND_NAME,
+        5,
+        GIGAJOULES,
+        numbers,
+        to + 1,
+        shipper,
+    );
     let next = is_next(counts, numbers, Tag::Shipper, row);
     both(kept, both(next, is_fed(numbers, to)))
 }
@@ -72,9 +103,9 @@ pub fn read_point(counts: Counts, file: &[u8], at: usize, row: u32, numbers: &mu
         return false;
     }
     let to = row_place(counts, Tag::Point, row);
-    let side = read_kind(file, at + 3, 1, SIDE, numbers, to, true);
-    let point = read_kind(file, at + 4, 1, NAME, numbers, to + 1, side);
-    let kept = read_kind(file, at + 6, 1, HOUR, numbers, to + 2, point);
+    let side = read_kind(file, at + HEADER, 1, SIDE, numbers, to, true);
+    let point = read_kind(file, at + BEHIND_SIDE, 1, NAME, numbers, to + 1, side);
+    let kept = read_kind(file, at + BEHIND_POINT, 1, HOUR, numbers, to + 2, point);
     both(kept, is_next(counts, numbers, Tag::Point, row))
 }
 
@@ -85,9 +116,9 @@ pub fn read_entry(counts: Counts, file: &[u8], at: usize, row: u32, numbers: &mu
         return false;
     }
     let to = row_place(counts, Tag::Entry, row);
-    let side = read_kind(file, at + 3, 1, SIDE, numbers, to, true);
-    let names = read_kind(file, at + 4, 2, NAME, numbers, to + 1, side);
-    let kept = read_kind(file, at + 8, 1, HOUR, numbers, to + 3, names);
+    let side = read_kind(file, at + HEADER, 1, SIDE, numbers, to, true);
+    let names = read_kind(file, at + BEHIND_SIDE, 2, NAME, numbers, to + 1, side);
+    let kept = read_kind(file, at + BEHIND_NAMES, 1, HOUR, numbers, to + 3, names);
     both(kept, is_next(counts, numbers, Tag::Entry, row))
 }
 
@@ -98,10 +129,34 @@ pub fn read_meter(counts: Counts, file: &[u8], at: usize, row: u32, numbers: &mu
         return false;
     }
     let to = row_place(counts, Tag::Meter, row);
-    let shipper = read_kind(file, at + 3, 1, NAME, numbers, to, true);
-    let mdqs = read_kind(file, at + 5, 2, GIGAJOULES, numbers, to + 1, shipper);
-    let hours = read_kind(file, at + 13, 59, HOUR, numbers, to + 3, mdqs);
-    let schedules = read_kind(file, at + 249, 4, GIGAJOULES, numbers, to + 62, hours);
-    let kept = read_kind(file, at + 265, 2, BACKHAUL, numbers, to + 66, schedules);
+    let shipper = read_kind(file, at + HEADER, 1, NAME, numbers, to, true);
+    let mdqs = read_kind(
+        file,
+        at + BEHIND_NAME,
+        2,
+        GIGAJOULES,
+        numbers,
+        to + 1,
+        shipper,
+    );
+    let hours = read_kind(file, at + BEHIND_MDQS, HOURS, HOUR, numbers, to + 3, mdqs);
+    let schedules = read_kind(
+        file,
+        at + BEHIND_HOURS,
+        4,
+        GIGAJOULES,
+        numbers,
+        to + SCHEDULES_AT,
+        hours,
+    );
+    let kept = read_kind(
+        file,
+        at + BEHIND_SCHEDULES,
+        2,
+        BACKHAUL,
+        numbers,
+        to + BACKHAUL_AT,
+        schedules,
+    );
     both(kept, is_next(counts, numbers, Tag::Meter, row))
 }

@@ -4,7 +4,7 @@ use dayformat::Column;
 ghost use Prim.Native.Nat.{_+_, _*_, _≤_};
 ghost use lib.ListN.{length};
 ghost use Rattle.bigendian.specs.Number.{widest};
-ghost use Rattle.daybodies.specs.Kind.{KindRead};
+ghost use Rattle.daybodies.specs.Private.{KindRead};
 
 // Lays the numbers from a byte on into a list from a place on. Whether they keep their bounds, and those before did.
 pub fn read_kind(

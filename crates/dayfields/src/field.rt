@@ -1,5 +1,7 @@
 // Whether a field stands whole at a byte.
 use bigendian::number_at;
+use dayformat::HEADER;
+use dayformat::LENGTH_WIDTH;
 use dayformat::Tag;
 use dayformat::form_of;
 ghost use mathlib.Core.Path.{_≡_};
@@ -13,17 +15,17 @@ pub fn breaks(file: &[u8], tag: Tag, at: usize) -> u8
         return 1;
     }
     let left = file.len() - at;
-    if left < 3 {
+    if left < HEADER {
         return 1;
     }
     let form = form_of(tag);
     if file[at] != form.byte {
         return 2;
     }
-    if number_at(file, at + 1, 2) as usize != form.size {
+    if number_at(file, at + 1, LENGTH_WIDTH) as usize != form.size {
         return 2;
     }
-    if left < 3 + form.size {
+    if left < HEADER + form.size {
         return 1;
     }
     0

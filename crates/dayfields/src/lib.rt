@@ -4,6 +4,7 @@ mod row;
 
 use crate::row::read_row;
 use dayformat::Counts;
+use dayformat::HEADER;
 use dayformat::Tag;
 use dayformat::row_place;
 use dayrows::Source;
@@ -27,6 +28,6 @@ pub fn take_field(
     if broken != 0 {
         return broken;
     }
-    read_row(file, tag, at + 3, numbers, row_place(counts, tag, row));
+    read_row(file, tag, at + HEADER, numbers, row_place(counts, tag, row));
     row_fault(source, counts, numbers, tag, row)
 }

@@ -20,8 +20,9 @@ use Rattle.dayfile.specs.declared.reader.Reading.{Reading}
 use Rattle.dayruns.specs.declared.walk.Walk.{Walk}
 use Rattle.dayruns.specs.Walk.{file-check}
 use Rattle.dayruns.proofs.Ending.{faultless}
-use Rattle.dayfile.specs.File.{head-of, tables, Walked}
-use Rattle.dayfile.specs.Answer.{check, Answered}
+use Rattle.dayfile.specs.File.{head-of, tables}
+use Rattle.dayfile.specs.Private.{Walked}
+use Rattle.dayfile.specs.Answer.{reading-check, ReadingAnswered}
 
 -- what stands after the tests: the file walked through, its numbers counted, and what is found
 pub record Tested : Type 0 where
@@ -38,11 +39,11 @@ pub record Tested : Type 0 where
   pub finds : found ≡ (checked then keep (leb count (length lent)) 7)
 
 module _ (t : Tested) where
-  is : t .found ≡ check (t .file) (length (t .lent))
-  unfolding check
+  is : t .found ≡ reading-check (t .file) (length (t .lent))
+  unfolding reading-check
   is = t .finds ∙ rw (t .checks, t .counted, t .walked .answers)
 
-  pub refuses : (x : Refusal) → t .found ≡ Refused x → Answered (t .file) (t .lent) (t .lent) (Reading.Refused x)
+  pub refuses : (x : Refusal) → t .found ≡ Refused x → ReadingAnswered (t .file) (t .lent) (t .lent) (Reading.Refused x)
   refuses x e = let no = sym is ∙ e in record { answers = rw no; leaves = rw no }
 
   module _ (yes : t .found ≡ Accepted) where
@@ -65,7 +66,7 @@ module _ (t : Tested) where
         ∙ listed-col (tables (t .file) .numbers)
 
     pub reads : {after : List ℕ} {head : Head} → after ≡ sets (t .lent) 0 (listed (t .count) (col (t .numbers))) → head ≡ head-of (t .file)
-        → Answered (t .file) (t .lent) after (Reading.Read (record { head = head; counts = t .walk .counts }))
+        → ReadingAnswered (t .file) (t .lent) after (Reading.Read (record { head = head; counts = t .walk .counts }))
     reads e h =
         let on = sym is ∙ yes in
         record { answers = rw (on, h, t .walked .answers); leaves = rw (on, ← copied) e }

@@ -12,7 +12,7 @@ use Rattle.dayruns.specs.Walk.{file-check}
 use Rattle.dayruns.proofs.Decided.{refuses-walk, walk-numbered}
 use Rattle.dayfile.specs.declared.reader.Reading.{Reading}
 use Rattle.dayfile.specs.File.{walked}
-use Rattle.dayfile.specs.Answer.{check, day-of, answer, verdict, Answered}
+use Rattle.dayfile.specs.Answer.{reading-check, day-of, reading-answer, reading-verdict, ReadingAnswered}
 use Rattle.dayfile.proofs.Reaching.{most-file, walked-reached}
 
 -- ---- for callers: what a file's own refusal has
@@ -23,19 +23,20 @@ pub file-placed : (file : List ℕ) → PlacedTo most-file (file-check (walked f
 file-placed file = refuses-walk _ (walked file) (λ some. walked-reached file .place)
 
 -- ---- the reader
-reading-numbered : (file : List ℕ) (room : ℕ) → AllNumbered (check file room)
-unfolding check
+reading-numbered : (file : List ℕ) (room : ℕ) → AllNumbered (reading-check file room)
+unfolding reading-check
 reading-numbered file room = file-numbered file and kept-by _ 7 tt tt
 
-pub reading-placed : (file : List ℕ) (room : ℕ) → PlacedTo most-file (check file room)
-unfolding check
+pub reading-placed : (file : List ℕ) (room : ℕ) → PlacedTo most-file (reading-check file room)
+unfolding reading-check
 reading-placed file room = file-placed file then-if plainly _ 7
 
-pub reading-decided : {file lent after : List ℕ} {reading : Reading} → Answered file lent after reading
-    → Decided (check file (length lent)) (day-of file)
+pub reading-decided : {file lent after : List ℕ} {reading : Reading} → ReadingAnswered file lent after reading
+    → Decided (reading-check file (length lent)) (day-of file)
     (record {
       head = record { day = 0; «free_flow» = record { 0 = 0 }; compressor = record { 0 = 0 } };
       counts = record { shippers = 0; points = 0; entries = 0; meters = 0 };
     })
-    (verdict reading)
-reading-decided {file} {lent} A = decided answer verdict refl (λ refusal. refl) (reading-numbered file (length lent)) (A .answers)
+    (reading-verdict reading)
+reading-decided {file} {lent} A = decided reading-answer reading-verdict refl (λ refusal. refl) (reading-numbered file (length lent))
+    (A .answers)

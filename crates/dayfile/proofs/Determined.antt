@@ -4,8 +4,8 @@ use mathlib.Core.List.{List}
 use Prim.Native.Nat.{ℕ}
 use Rattle.units.proofs.Determined.{determined}
 use Rattle.dayfile.specs.declared.reader.Reading.{Reading}
-use Rattle.dayfile.specs.Answer.{Answered}
+use Rattle.dayfile.specs.Answer.{ReadingAnswered}
 
-pub reading-determined : {file lent l₁ l₂ : List ℕ} {r₁ r₂ : Reading} → Answered file lent l₁ r₁ → Answered file lent l₂ r₂
+pub reading-determined : {file lent l₁ l₂ : List ℕ} {r₁ r₂ : Reading} → ReadingAnswered file lent l₁ r₁ → ReadingAnswered file lent l₂ r₂
     → (r₁ ≡ r₂) × (l₁ ≡ l₂)
 reading-determined a b = (determined (a .answers) (b .answers), determined (a .leaves) (b .leaves))

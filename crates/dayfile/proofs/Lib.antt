@@ -7,3 +7,12 @@ pub mod Rooms
 pub mod Stages
 pub mod Steps
 pub mod Walking
+pub mod Agreeing
+pub mod FieldsThere
+pub mod Leading
+pub mod Rereading
+pub mod SoundRuns
+pub mod FileAgain
+pub mod Told
+pub mod Above
+pub mod WrittenRuns

@@ -11,12 +11,12 @@ use Rattle.bigendian.specs.Row.{size}
 use Rattle.dayformat.specs.declared.form.Tag.{Tag}
 use Rattle.dayformat.specs.declared.form.Tag.the-variants.{Head, Shipper, Point, Entry, Meter}
 use Rattle.dayformat.specs.Format.{column-in, field-size, form}
-use Rattle.dayformat.specs.Layout.{numbers-in}
+use Rattle.dayformat.specs.Layout.{numbers-in, most-numbers}
 use Rattle.dayruns.specs.declared.walk.Walk.{Walk}
 use Rattle.dayruns.specs.Run.{rows-of, stops}
 use Rattle.dayruns.specs.Walk.{walk-after}
 use Rattle.dayruns.proofs.Decided.{Known, field-known, run-known, ended-has}
-use Rattle.dayfile.specs.File.{Tables, fields-from, head-fields, head-fault, headed, table-run, tabled, tables, walked, most-numbers}
+use Rattle.dayfile.specs.File.{Tables, fields-from, head-fields, head-fault, headed, table-run, tabled, tables, walked}
 use Rattle.dayfile.proofs.Rooms.{Few, few-none, few-with, few-fit}
 
 -- a walk that has come no further than a byte

@@ -6,9 +6,8 @@ use Rattle.dayformat.specs.declared.form.Tag.{Tag}
 use Rattle.dayformat.specs.declared.form.Tag.the-variants.{Head, Shipper, Point, Entry, Meter}
 use Rattle.dayformat.specs.declared.layout.Counts.{Counts}
 use Rattle.dayformat.specs.Format.{form}
-use Rattle.dayformat.specs.Layout.{no-rows, with-count, table-start, numbers-in}
-use Rattle.dayformat.proofs.Small.{Table}
-use Rattle.dayfile.specs.File.{most-numbers}
+use Rattle.dayformat.specs.Layout.{no-rows, with-count, table-start, numbers-in, most-numbers}
+use Rattle.dayformat.specs.Private.{HasTable}
 
 abbrev pub before : Tag → Tag
 before Head = Head
@@ -46,7 +45,7 @@ few-with Entry c rows few l =
 few-with Meter c rows few l =
     record { shippers = few .shippers; points = few .points; entries = few .entries; meters = l }
 
-pub none-with : (tag : Tag) → Table tag → (c : Counts) (rows : ℕ) → None-after (before tag) c → None-after tag (with-count c tag rows)
+pub none-with : (tag : Tag) → HasTable tag → (c : Counts) (rows : ℕ) → None-after (before tag) c → None-after tag (with-count c tag rows)
 none-with Head t c rows none = absurd t
 none-with Shipper t c rows none = (none .1, none .2, none .3)
 none-with Point t c rows none = (none .1, none .2)
@@ -54,14 +53,14 @@ none-with Entry t c rows none = none .1
 none-with Meter t c rows none = tt
 
 module _ (c : Counts) where
-  pub starts-after : (tag : Tag) → Table tag → None-after (before tag) c → table-start c tag ≡ numbers-in c
+  pub starts-after : (tag : Tag) → HasTable tag → None-after (before tag) c → table-start c tag ≡ numbers-in c
   starts-after Head t none = absurd t
   starts-after Shipper t none = omega (arith, none .0, none .1, none .2, none .3)
   starts-after Point t none = omega (arith, none .0, none .1, none .2)
   starts-after Entry t none = omega (arith, none .0, none .1)
   starts-after Meter t none = omega (arith, none)
 
-  pub grown : (tag : Tag) → Table tag → (rows : ℕ) → None-after (before tag) c
+  pub grown : (tag : Tag) → HasTable tag → (rows : ℕ) → None-after (before tag) c
       → numbers-in (with-count c tag rows) ≡ numbers-in c + rows * form tag .columns
   grown Head t rows none = absurd t
   grown Shipper t rows none = omega (arith, none .0, none .1, none .2, none .3)

@@ -7,13 +7,14 @@ use lib.ListN.{length, replicate, length-replicate}
 use Rattle.columns.specs.Column.{col}
 use Rattle.dayformat.specs.declared.form.Tag.{Tag}
 use Rattle.dayformat.specs.declared.form.Tag.the-variants as Tag
-use Rattle.dayformat.specs.Layout.{numbers-in}
+use Rattle.dayformat.specs.Layout.{numbers-in, most-numbers}
 use Rattle.dayruns.specs.declared.walk.Walk.{Walk}
 use Rattle.dayruns.specs.Walk.{ended}
 use Rattle.dayruns.proofs.Ending.{ended-none}
-use Rattle.dayfile.specs.File.{Tables, headed, tabled, tables, most-numbers, Tabled, Walked}
+use Rattle.dayfile.specs.File.{Tables, headed, tabled, tables}
+use Rattle.dayfile.specs.Private.{Tabled, Walked}
 use Rattle.dayruns.proofs.Fronts.{front-none}
-use Rattle.dayformat.proofs.Small.{Table}
+use Rattle.dayformat.specs.Private.{HasTable}
 use Rattle.dayfile.proofs.Rooms.{before, few-none, few-fit}
 use Rattle.dayfile.proofs.Walking.{Held, Ready, table-answers, table-ready}
 
@@ -36,7 +37,7 @@ stage-first file e zeros =
       room = ap length zeros ∙ length-replicate {A = ℕ} most-numbers 0;
     }
 
-pub stage-next : (file : List ℕ) (tag : Tag) (T : Tables) {walk next : Walk} {list after : List ℕ} → Table tag
+pub stage-next : (file : List ℕ) (tag : Tag) (T : Tables) {walk next : Walk} {list after : List ℕ} → HasTable tag
     → Stage (before tag) T walk list
     → Tabled walk file tag list after next → length after ≡ length list → Stage tag (tabled file tag T) next after
 stage-next file tag T {list = list} t S B long =

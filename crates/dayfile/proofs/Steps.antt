@@ -5,21 +5,21 @@ use Prim.Native.Nat.{ℕ, _+_}
 use native.Mathlib.Omega.{arith}
 use borrow.Author.Tests.{eq-eqb, ne-eqb}
 use lib.ListN.{length, drop, replicate}
-use Rattle.columns.specs.Column.{col, listed}
+use Rattle.columns.specs.Column.{col, listed, joined}
 use Rattle.bigendian.specs.Row.{size, decode}
 use Rattle.dayformat.specs.declared.form.Tag.{Tag}
 use Rattle.dayformat.specs.declared.form.Tag.the-variants as Tag
 use Rattle.dayformat.specs.declared.layout.Counts.{Counts}
 use Rattle.dayformat.specs.Format.{column-in, widths}
 use Rattle.dayformat.specs.Layout.{no-rows, with-count}
-use Rattle.dayformat.specs.Table.{joined}
 use Rattle.dayrows.specs.declared.Source.the-variants as Source
 use Rattle.dayfields.specs.Field.{with-row, Taken}
 use Rattle.dayruns.specs.declared.run.Run.{Run}
 use Rattle.dayruns.specs.declared.walk.Walk.{Walk}
 use Rattle.dayruns.specs.Run.{place-of, rows-of, field-fault, laid, Ran}
 use Rattle.dayruns.specs.Walk.{walk-after}
-use Rattle.dayfile.specs.File.{fields-from, head-fields, head-fault, headed, Tabled}
+use Rattle.dayfile.specs.File.{fields-from, head-fields, head-fault, headed}
+use Rattle.dayfile.specs.Private.{Tabled}
 use Rattle.dayruns.proofs.Fronts.{front-more, front-none}
 use Rattle.dayruns.proofs.Running.{length-row, ran-sound}
 

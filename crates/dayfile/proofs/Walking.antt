@@ -12,14 +12,15 @@ use Rattle.columns.specs.First.{first}
 use Rattle.columns.proofs.Firsts.{first-le}
 use Rattle.dayformat.specs.declared.form.Tag.{Tag}
 use Rattle.dayformat.specs.Format.{form}
-use Rattle.dayformat.specs.Layout.{table-start, numbers-in}
+use Rattle.dayformat.specs.Layout.{table-start, numbers-in, most-numbers}
 use Rattle.dayrows.specs.Test.{fault}
 use Rattle.dayruns.specs.declared.run.Run.{Run}
 use Rattle.dayruns.specs.Run.{Fields, rows-of, stops, run-of, laid}
 use Rattle.dayruns.specs.declared.walk.Walk.{Walk}
 use Rattle.dayruns.specs.Walk.{walk-after}
-use Rattle.dayfile.specs.File.{Tables, fields-from, table-run, tabled, most-numbers, Tabled}
-use Rattle.dayformat.proofs.Small.{Table}
+use Rattle.dayfile.specs.File.{Tables, fields-from, table-run, tabled}
+use Rattle.dayfile.specs.Private.{Tabled}
+use Rattle.dayformat.specs.Private.{HasTable}
 use Rattle.dayfile.proofs.Rooms.{before, Few, None-after, few-with, none-with, starts-after, grown, room-after}
 use Rattle.dayruns.proofs.Running.{length-rows}
 use Rattle.dayruns.proofs.Runs.{run-same, run-front}
@@ -34,7 +35,7 @@ pub record Held (T : Tables) (lent : List ℕ) : Type 0 where
 abbrev pub Ready : Tag → Tables → List ℕ → Type 0
 Ready tag T lent = T .walk .fault ≡ 0 → Held T lent × None-after tag (T .walk .counts)
 
-module _ (file : List ℕ) (tag : Tag) (T : Tables) (lent : List ℕ) (room : length lent ≡ most-numbers) (t : Table tag)
+module _ (file : List ℕ) (tag : Tag) (T : Tables) (lent : List ℕ) (room : length lent ≡ most-numbers) (t : HasTable tag)
     (ready : Ready (before tag) T lent) where
   abbrev F : Fields
   F = fields-from file (T .walk) tag

@@ -17,24 +17,30 @@ use Rattle.dayruns.specs.Walk.{file-check}
 use Rattle.dayfile.specs.File.{head-of, tables, walked}
 
 -- 7 only for a file that is otherwise sound
-unfoldable pub check : List ℕ → ℕ → Check
-check file room = file-check (walked file) then keep (leb (numbers-in (walked file .counts)) room) 7
+unfoldable pub reading-check : List ℕ → ℕ → Check
+reading-check file room = file-check (walked file) then keep (leb (numbers-in (walked file .counts)) room) 7
 
 abbrev pub day-of : List ℕ → Day
 day-of file = record { head = head-of file; counts = walked file .counts }
 
-abbrev pub answer : Check → Day → Reading
-answer (Check.Refused refusal) day = Refused refusal
-answer Check.Accepted day = Read day
+abbrev pub reading-answer : Check → Day → Reading
+reading-answer (Check.Refused refusal) day = Refused refusal
+reading-answer Check.Accepted day = Read day
 
 -- 01's number, place and figures of each case: the head's and the counts'
-abbrev pub verdict : Reading → Verdict Day
-verdict (Read day) = accepting day
-verdict (Refused refusal) =
+abbrev pub reading-verdict : Reading → Verdict Day
+reading-verdict (Read day) = accepting day
+reading-verdict (Refused refusal) =
     refusing refusal
     (record { head = record { day = 0; «free_flow» = record { 0 = 0 }; compressor = record { 0 = 0 } }; counts = no-rows })
 
 -- the answer, and the lent block before and after
-pub record Answered (file lent after : List ℕ) (reading : Reading) : Type 0 where
-  pub answers : reading ≡ answer (check file (length lent)) (day-of file)
-  pub leaves : after ≡ accepted-or (check file (length lent)) (sets lent 0 (tables file .numbers)) lent
+pub record ReadingAnswered (file lent after : List ℕ) (reading : Reading) : Type 0 where
+  pub answers : reading ≡ reading-answer (reading-check file (length lent)) (day-of file)
+  pub leaves : after ≡ accepted-or (reading-check file (length lent)) (sets lent 0 (tables file .numbers)) lent
+
+-- the reader accepts a file, and the day with its numbers is what it answers
+pub record Reads (file : List ℕ) (day : Day) (numbers : List ℕ) : Type 0 where
+  pub accepted : walked file .fault ≡ 0
+  pub day-is : day-of file ≡ day
+  pub numbers-are : tables file .numbers ≡ numbers

@@ -1,22 +1,19 @@
 -- 01, "The day file": a head, then the fields of each tag in order, then nothing.
-use mathlib.Core.Path.{_≡_}
 use mathlib.Core.Bool.{cond}
 use mathlib.Core.List.{List, [], _++_}
-use Prim.Native.Nat.{ℕ, _≤_}
+use Prim.Native.Nat.{ℕ}
 use lib.Dec.{eqb}
-use lib.ListN.{length, take, drop}
 use Rattle.columns.specs.Column.{col}
-use Rattle.bigendian.specs.Number.{value}
 use Rattle.dayformat.specs.declared.day.Head.{Head}
 use Rattle.dayformat.specs.declared.form.Tag.{Tag}
 use Rattle.dayformat.specs.declared.form.Tag.the-variants as Tag
-use Rattle.dayformat.specs.Format.{field-size}
-use Rattle.dayformat.specs.Layout.{no-rows, numbers-in}
+use Rattle.dayformat.specs.Format.{field-size, number-in}
+use Rattle.dayformat.specs.Layout.{no-rows}
 use Rattle.dayrows.specs.declared.Source.{Source}
 use Rattle.dayrows.specs.declared.Source.the-variants as Source
 use Rattle.dayruns.specs.declared.run.Run.{Run}
 use Rattle.dayruns.specs.declared.walk.Walk.{Walk}
-use Rattle.dayruns.specs.Run.{Fields, rows-of, field-fault, run-of, laid}
+use Rattle.dayruns.specs.Run.{Fields, rows-of, field-fault, run-of}
 use Rattle.dayruns.specs.Walk.{walk-after, ended}
 
 -- a file read up to a place or to its first faulty field, and the numbers of the rows before
@@ -42,9 +39,9 @@ headed file =
 abbrev pub head-of : List ℕ → Head
 head-of file =
     record {
-      day = value (take 4 (drop 3 file));
-      «free_flow» = record { 0 = value (take 4 (drop 7 file)) };
-      compressor = record { 0 = value (take 4 (drop 11 file)) };
+      day = number-in Tag.Head file 0;
+      «free_flow» = record { 0 = number-in Tag.Head file 1 };
+      compressor = record { 0 = number-in Tag.Head file 2 };
     }
 
 -- ---- the fields of one tag after those before
@@ -71,26 +68,3 @@ tables file =
 
 abbrev pub walked : List ℕ → Walk
 walked file = ended file (tables file .walk)
-
--- ---- the statements of the routines that walk through a file with a lent list of numbers
-pub record Tabled (walk : Walk) (file : List ℕ) (tag : Tag) (lent after : List ℕ) (next : Walk) : Type 0 where
-  pub answers :
-      next
-      ≡ cond (eqb (walk .fault) 0)
-      (walk-after walk tag (run-of (fields-from file walk tag) (λ many. col (laid (fields-from file walk tag) lent many))))
-      walk
-  pub lays :
-      walk .fault ≡ 0
-      → next .fault ≡ 0
-      → after ≡ laid (fields-from file walk tag) lent
-      (run-of (fields-from file walk tag) (λ many. col (laid (fields-from file walk tag) lent many)) .rows)
-
--- how many numbers a day has at most
-abbrev pub most-numbers : ℕ
-most-numbers = 6_880
-
-pub record Walked (file after : List ℕ) (walk : Walk) : Type 0 where
-  pub answers : walk ≡ walked file
-  pub holds : walk .fault ≡ 0 → col after ≡ col (tables file .numbers)
-  pub counts : walk .fault ≡ 0 → length (tables file .numbers) ≡ numbers-in (walk .counts)
-  pub fits : walk .fault ≡ 0 → numbers-in (walk .counts) ≤ length after

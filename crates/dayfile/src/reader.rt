@@ -2,7 +2,11 @@
 use crate::walk::walk_file;
 use bigendian::number_at;
 use dayformat::Day;
+use dayformat::GIGAJOULES;
+use dayformat::HEADER;
 use dayformat::Head;
+use dayformat::MOST_NUMBERS;
+use dayformat::NUMBER;
 use dayformat::numbers_of;
 use dayrows::number_of;
 use units::Check;
@@ -14,10 +18,7 @@ ghost use lib.ListN.{length};
 ghost use lib.Seq.{sets};
 ghost use Rattle.columns.specs.Column.{col, listed};
 ghost use Rattle.dayfile.specs.File.{head-of};
-ghost use Rattle.dayfile.specs.Answer.{Answered};
-
-// How many numbers a day has at most: 64 shippers, 32 points, 512 entries, 64 meters.
-const MOST_NUMBERS: usize = 6_880;
+ghost use Rattle.dayfile.specs.Answer.{ReadingAnswered};
 
 // The head and the counts of a day, or why its file is refused.
 pub enum Reading {
@@ -27,7 +28,7 @@ pub enum Reading {
 
 // Reads a day's file. Every figure of its tables goes to the front of a lent block.
 pub fn read_day(file: &[u8], lent: &mut [usize]) -> Reading
-    ensures { λ r. ⌜ Answered (now (file .entry)) (now (lent .entry)) (now (lent .exit)) r ⌝ }
+    ensures { λ r. ⌜ ReadingAnswered (now (file .entry)) (now (lent .entry)) (now (lent .exit)) r ⌝ }
 {
     let mut numbers = [0usize; MOST_NUMBERS];
     let walk = walk_file(file, &mut numbers);
@@ -46,13 +47,18 @@ pub fn read_day(file: &[u8], lent: &mut [usize]) -> Reading
     }
 }
 
+// Where the numbers of the head's field stand.
+const FREE_FLOW: usize = HEADER + NUMBER.width;
+
+const COMPRESSOR: usize = FREE_FLOW + GIGAJOULES.width;
+
 fn head_of(file: &[u8]) -> Head
     ensures { λ r. ⌜ r ≡ head-of (now (file .entry)) ⌝ }
 {
     Head {
-        day: number_at(file, 3, 4),
-        free_flow: Gigajoules(number_at(file, 7, 4)),
-        compressor: Gigajoules(number_at(file, 11, 4)),
+        day: number_at(file, HEADER, NUMBER.width),
+        free_flow: Gigajoules(number_at(file, FREE_FLOW, GIGAJOULES.width)),
+        compressor: Gigajoules(number_at(file, COMPRESSOR, GIGAJOULES.width)),
     }
 }
 

@@ -7,7 +7,9 @@ use dayruns::Walk;
 use dayruns::run_fields;
 ghost use mathlib.Core.Path.{_≡_};
 ghost use lib.ListN.{replicate};
-ghost use Rattle.dayfile.specs.File.{headed, most-numbers, Tabled, Walked};
+ghost use Rattle.dayfile.specs.File.{headed};
+ghost use Rattle.dayformat.specs.Layout.{most-numbers};
+ghost use Rattle.dayfile.specs.Private.{Tabled, Walked};
 
 // The head's field.
 fn begin(file: &[u8]) -> Walk

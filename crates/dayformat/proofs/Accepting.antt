@@ -5,16 +5,12 @@ use native.Mathlib.Omega.{arith}
 use borrow.Author.Tests.{leb-true, le-leb}
 use Rattle.units.specs.declared.refusal.Check.{Check}
 use Rattle.units.proofs.Checks.{both-accepted, kept, accepts-both, accepts-kept}
-use Rattle.dayformat.specs.declared.form.Tag.{Tag}
 use Rattle.dayformat.specs.declared.form.Tag.the-variants.{Head, Shipper, Point, Entry, Meter}
 use Rattle.dayformat.specs.declared.layout.Counts.{Counts}
 use Rattle.dayformat.specs.Format.{form}
 use Rattle.dayformat.specs.Layout.{count}
 use Rattle.dayformat.specs.Acceptance.{counts-check}
-
--- no tag has more fields than it may
-abbrev pub Few : Counts → Type 0
-Few counts = (tag : Tag) → count counts tag ≤ form tag .most
+use Rattle.dayformat.specs.Private.{Few}
 
 pub counts-accepted : (counts : Counts) → counts-check counts ≡ Check.Accepted → Few counts
 unfolding counts-check

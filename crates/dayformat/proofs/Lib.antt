@@ -2,4 +2,4 @@ pub mod Accepting
 pub mod Bodies
 pub mod Decided
 pub mod Small
-pub mod Tables
+pub mod Sizes

@@ -53,14 +53,6 @@ narrow Point place = narrow-in (body Point) (omega arith, (omega arith, (omega a
 narrow Entry place = narrow-in (body Entry) (omega arith, (omega arith, (omega arith, tt))) place
 narrow Meter place = narrow-in (body Meter) (omega arith, (omega arith, (omega arith, (omega arith, (omega arith, tt))))) place
 
--- every tag but the head's has a table
-abbrev pub Table : Tag → Type 0
-Table Head = ⊥
-Table Shipper = Unit {0}
-Table Point = Unit {0}
-Table Entry = Unit {0}
-Table Meter = Unit {0}
-
 -- ---- a number within its bounds can be spelled
 abbrev Spelled : List Several → Type 0
 Spelled [] = Unit {0}

@@ -1,11 +1,13 @@
 -- 01, "The day file": fields of a one-byte tag, a two-byte length, a body.
 use mathlib.Core.Bool.{cond}
-use mathlib.Core.List.{List, [], _∷_}
+use mathlib.Core.List.{List, [], _∷_, _++_}
 use Prim.Native.Nat.{ℕ, _+_, _-_}
 use lib.Dec.{ltb}
+use lib.ListN.{take, drop}
 use Rattle.columns.specs.Column.{listed}
 use Rattle.units.specs.Bound.{most-gigajoules, most-hour, most-backhaul}
-use Rattle.bigendian.specs.Row.{size}
+use Rattle.bigendian.specs.Number.{value, bytes}
+use Rattle.bigendian.specs.Row.{size, encode}
 use Rattle.dayformat.specs.declared.form.Tag.{Tag}
 use Rattle.dayformat.specs.declared.form.Tag.the-variants.{Head, Shipper, Point, Entry, Meter}
 use Rattle.dayformat.specs.declared.form.Column.{Column}
@@ -94,9 +96,23 @@ key Point = 2
 key Entry = 3
 key Meter = 1
 
--- the tag, two bytes of length, the body
+-- a field's header: the tag's byte and two bytes of length
+abbrev pub length-width : ℕ
+length-width = 2
+
+abbrev pub header : ℕ
+header = 1 + length-width
+
+-- how many bytes a field has, and the byte of it at which a number begins
 abbrev pub field-size : Tag → ℕ
-field-size tag = 3 + size (widths tag)
+field-size tag = header + size (widths tag)
+
+abbrev pub number-place : Tag → ℕ → ℕ
+number-place tag place = header + size (take place (widths tag))
+
+-- the number that stands at a place of the field with which a list of bytes begins
+abbrev pub number-in : Tag → List ℕ → ℕ → ℕ
+number-in tag bytes place = value (take (column-in (body tag) place .width) (drop (number-place tag place) bytes))
 
 abbrev pub form : Tag → Form
 form tag =
@@ -107,3 +123,7 @@ form tag =
       most = most tag;
       key = key tag;
     }
+
+-- a field of a row: the tag, the length, the body
+abbrev pub field : Tag → List ℕ → List ℕ
+field tag row = form tag .byte ∷ bytes length-width (form tag .size) ++ encode (widths tag) row

@@ -3,7 +3,7 @@ use Prim.Native.Nat.{ℕ, _+_, _*_}
 use Rattle.dayformat.specs.declared.form.Tag.{Tag}
 use Rattle.dayformat.specs.declared.form.Tag.the-variants.{Head, Shipper, Point, Entry, Meter}
 use Rattle.dayformat.specs.declared.layout.Counts.{Counts}
-use Rattle.dayformat.specs.Format.{body, numbers-of, field-size}
+use Rattle.dayformat.specs.Format.{body, numbers-of, most, field-size}
 
 abbrev pub count : Counts → Tag → ℕ
 count counts Head = 1
@@ -53,3 +53,10 @@ run-size counts tag = count counts tag * field-size tag
 abbrev pub file-size : Counts → ℕ
 file-size counts =
     run-size counts Head + run-size counts Shipper + run-size counts Point + run-size counts Entry + run-size counts Meter
+
+-- a full day: as many fields of each tag as there may be, and how many numbers they have
+abbrev pub most-counts : Counts
+most-counts = record { shippers = most Shipper; points = most Point; entries = most Entry; meters = most Meter }
+
+abbrev pub most-numbers : ℕ
+most-numbers = numbers-in most-counts

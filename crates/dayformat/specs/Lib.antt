@@ -1,4 +1,5 @@
 pub mod Format
 pub mod Layout
-pub mod Table
 pub mod Acceptance
+pub mod DayBytes
+pub mod Private

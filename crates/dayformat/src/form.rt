@@ -45,7 +45,7 @@ pub const NAME: Column = Column {
     high: 65_535,
 };
 
-const NUMBER: Column = Column {
+pub const NUMBER: Column = Column {
     width: 4,
     low: 0,
     high: 4_294_967_295,
@@ -69,43 +69,89 @@ pub const BACKHAUL: Column = Column {
     high: 2_400_000_000,
 };
 
+// A field's header: the tag's byte and the bytes of its length.
+pub const LENGTH_WIDTH: usize = 2;
+
+pub const HEADER: usize = 1 + LENGTH_WIDTH;
+
+// How many numbers a body holds, and in how many bytes.
+pub const HEAD_COLUMNS: usize = 3;
+
+pub const SHIPPER_COLUMNS: usize = 6;
+
+pub const POINT_COLUMNS: usize = 3;
+
+pub const ENTRY_COLUMNS: usize = 4;
+
+pub const METER_COLUMNS: usize = 68;
+
+const HEAD_BODY: usize = 12;
+
+const SHIPPER_BODY: usize = 22;
+
+const POINT_BODY: usize = 7;
+
+const ENTRY_BODY: usize = 9;
+
+const METER_BODY: usize = 270;
+
+// How many bytes a field has.
+pub const HEAD_FIELD: usize = HEADER + HEAD_BODY;
+
+pub const SHIPPER_FIELD: usize = HEADER + SHIPPER_BODY;
+
+pub const POINT_FIELD: usize = HEADER + POINT_BODY;
+
+pub const ENTRY_FIELD: usize = HEADER + ENTRY_BODY;
+
+pub const METER_FIELD: usize = HEADER + METER_BODY;
+
+// How many fields of a tag there may be.
+pub const MOST_SHIPPERS: u32 = 64;
+
+pub const MOST_POINTS: u32 = 32;
+
+pub const MOST_ENTRIES: u32 = 512;
+
+pub const MOST_METERS: u32 = 64;
+
 pub fn form_of(tag: Tag) -> Form
     ensures { λ r. ⌜ r ≡ form tag ⌝ }
 {
     match tag {
         Tag::Head => Form {
             byte: 1,
-            columns: 3,
-            size: 12,
+            columns: HEAD_COLUMNS,
+            size: HEAD_BODY,
             most: 1,
             key: 0,
         },
         Tag::Shipper => Form {
             byte: 2,
-            columns: 6,
-            size: 22,
-            most: 64,
+            columns: SHIPPER_COLUMNS,
+            size: SHIPPER_BODY,
+            most: MOST_SHIPPERS,
             key: 1,
         },
         Tag::Point => Form {
             byte: 3,
-            columns: 3,
-            size: 7,
-            most: 32,
+            columns: POINT_COLUMNS,
+            size: POINT_BODY,
+            most: MOST_POINTS,
             key: 2,
         },
         Tag::Entry => Form {
             byte: 4,
-            columns: 4,
-            size: 9,
-            most: 512,
+            columns: ENTRY_COLUMNS,
+            size: ENTRY_BODY,
+            most: MOST_ENTRIES,
             key: 3,
         },
         Tag::Meter => Form {
             byte: 5,
-            columns: 68,
-            size: 270,
-            most: 64,
+            columns: METER_COLUMNS,
+            size: METER_BODY,
+            most: MOST_METERS,
             key: 1,
         },
     }

@@ -1,4 +1,17 @@
 // How many fields of each tag a day has; so where a row stands among its numbers, and how many numbers and bytes there are.
+use crate::form::ENTRY_COLUMNS;
+use crate::form::ENTRY_FIELD;
+use crate::form::HEAD_FIELD;
+use crate::form::METER_COLUMNS;
+use crate::form::METER_FIELD;
+use crate::form::MOST_ENTRIES;
+use crate::form::MOST_METERS;
+use crate::form::MOST_POINTS;
+use crate::form::MOST_SHIPPERS;
+use crate::form::POINT_COLUMNS;
+use crate::form::POINT_FIELD;
+use crate::form::SHIPPER_COLUMNS;
+use crate::form::SHIPPER_FIELD;
 use crate::form::Tag;
 use crate::form::form_of;
 use units::Check;
@@ -6,6 +19,12 @@ ghost use mathlib.Core.Path.{_≡_};
 ghost use Prim.Native.Nat.{_^_, _<_};
 ghost use Rattle.dayformat.specs.Layout.{count, with-count, table-start, row-start, numbers-in, file-size};
 ghost use Rattle.dayformat.specs.Acceptance.{counts-check};
+
+// How many numbers a day's tables have at most.
+pub const MOST_NUMBERS: usize = MOST_SHIPPERS as usize * SHIPPER_COLUMNS
+    + MOST_POINTS as usize * POINT_COLUMNS
+    + MOST_ENTRIES as usize * ENTRY_COLUMNS
+    + MOST_METERS as usize * METER_COLUMNS;
 
 // The fields of tags 2 to 5.
 pub struct Counts {
@@ -63,11 +82,12 @@ fn table_start(counts: Counts, tag: Tag) -> usize
     match tag {
         Tag::Head => 0,
         Tag::Shipper => 0,
-        Tag::Point => counts.shippers as usize * 6,
-        Tag::Entry => counts.shippers as usize * 6 + counts.points as usize * 3,
-        Tag::Meter => counts.shippers as usize * 6
-            + counts.points as usize * 3
-            + counts.entries as usize * 4,
+        Tag::Point => counts.shippers as usize * SHIPPER_COLUMNS,
+        Tag::Entry => counts.shippers as usize * SHIPPER_COLUMNS
+            + counts.points as usize * POINT_COLUMNS,
+        Tag::Meter => counts.shippers as usize * SHIPPER_COLUMNS
+            + counts.points as usize * POINT_COLUMNS
+            + counts.entries as usize * ENTRY_COLUMNS,
     }
 }
 
@@ -90,9 +110,9 @@ pub fn numbers_of(counts: Counts) -> usize
 pub fn file_size(counts: Counts) -> usize
     ensures { λ r. ⌜ r ≡ file-size counts ⌝ }
 {
-    15
-        + counts.shippers as usize * 25
-        + counts.points as usize * 10
-        + counts.entries as usize * 12
-        + counts.meters as usize * 273
+    HEAD_FIELD
+        + counts.shippers as usize * SHIPPER_FIELD
+        + counts.points as usize * POINT_FIELD
+        + counts.entries as usize * ENTRY_FIELD
+        + counts.meters as usize * METER_FIELD
 }

@@ -1,5 +1,5 @@
--- Zeros answer a meter that the tests refuse; its figures answer one that they accept.
-use mathlib.Core.Path.{_≡_, sym, _∙_}
+-- A meter that the tests refuse has the refusal for its figures and zeros for its hours; one that they accept has its own.
+use mathlib.Core.Path.{_≡_, ap, sym, _∙_}
 use mathlib.Core.List.{List}
 use Prim.Native.Nat.{ℕ, _≤_}
 use borrow.Author.Tests.{leb-true}
@@ -11,10 +11,22 @@ use Rattle.units.specs.declared.refusal.Check.{Check}
 use Rattle.units.specs.Refusals.{_then_, keep, accepted-or}
 use Rattle.units.proofs.Checks.{both-accepted, kept}
 use Rattle.dayformat.specs.declared.layout.Counts.{Counts}
+use Rattle.daymeters.specs.declared.figures.MeterFigures.{MeterFigures}
+use Rattle.daymeters.specs.declared.figures.MeterRow.{MeterRow}
 use Rattle.daymeters.specs.Meter.{meter-check}
+use Rattle.daymeters.specs.Figures.{figures-of, meter-answer}
 use Rattle.daymeters.specs.Hours.{delivered-check, with-delivered, Delivered}
 
--- figures by value
+-- a row's figures
+module _ (counts : Counts) (numbers : List ℕ) (row : ℕ) {found : Check} (finds : found ≡ meter-check counts numbers row) where
+  pub meter-refused : {x : Refusal} → found ≡ Check.Refused x → MeterRow.Refused x ≡ meter-answer counts numbers row
+  meter-refused e = rw (← finds, e)
+
+  pub meter-given : {figures : MeterFigures} → found ≡ Check.Accepted → figures ≡ figures-of counts (col numbers) row
+      → MeterRow.Meter figures ≡ meter-answer counts numbers row
+  meter-given e g = rw (← finds, e) (ap (λ figures. MeterRow.Meter figures) g)
+
+-- hours by value
 module _ {X : Type 0} {check found : Check} (finds : found ≡ check) (figures zeros : X) where
   pub zeros-refused : {x : Refusal} → found ≡ Check.Refused x → zeros ≡ accepted-or check figures zeros
   zeros-refused e = rw (← finds, e)

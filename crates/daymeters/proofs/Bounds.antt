@@ -8,7 +8,8 @@ use Rattle.dayformat.specs.declared.layout.Counts.{Counts}
 use Rattle.dayformat.specs.Format.{name, gigajoules, hour, backhaul, _of_}
 use Rattle.dayformat.proofs.Bodies.{among}
 use Rattle.dayvalues.proofs.Bounds.{gigajoules-most}
-use Rattle.daymeters.specs.Meter.{meter-at, sides-at, Bounded}
+use Rattle.daymeters.specs.Meter.{meter-at, sides-at}
+use Rattle.daymeters.specs.Private.{Bounded}
 
 module _ (counts : Counts) (numbers : ℕ → ℕ) (row : ℕ) (inside : Bounded counts numbers row) (place : ℕ) where
   pub mdq-most : 1 ≤ place → place < 3 → meter-at counts numbers row place ≤ most-gigajoules

@@ -1,20 +1,27 @@
--- The tests decide an answer of `check_meter` and of `meter_delivered`: number 0 exactly where they accept.
-use mathlib.Core.Path.{_≡_}
+-- The tests decide an answer of `check_meter`, of `meter_figures` and of `meter_delivered`: number 0 exactly where they accept.
+use mathlib.Core.Path.{_≡_, refl}
 use mathlib.Core.List.{List}
 use Prim.Native.Nat.{ℕ}
 use lib.ListN.{length}
+use Rattle.columns.specs.Column.{col}
 use Rattle.units.specs.declared.refusal.Check.{Check}
 use Rattle.units.specs.Verdict.{of-check, Decided}
-use Rattle.units.proofs.Verdicts.{AllNumbered, _and_, kept-by, checked}
+use Rattle.units.proofs.Verdicts.{AllNumbered, _and_, kept-by, checked, decided}
 use Rattle.dayformat.specs.declared.form.Tag.the-variants.{Meter}
 use Rattle.dayformat.specs.declared.layout.Counts.{Counts}
 use Rattle.dayvalues.proofs.Decided.{row-numbered}
+use Rattle.daymeters.specs.declared.figures.MeterRow.{MeterRow}
 use Rattle.daymeters.specs.Meter.{meter-check}
+use Rattle.daymeters.specs.Figures.{figures-of, no-figures, meter-where, meter-answer, meter-verdict}
 use Rattle.daymeters.specs.Hours.{delivered-check, Delivered}
 
 pub meter-decided : (counts : Counts) (numbers : List ℕ) (row : ℕ) {found : Check} → found ≡ meter-check counts numbers row
     → Decided (meter-check counts numbers row) tt tt (of-check found)
 meter-decided counts numbers row = checked (row-numbered counts numbers row Meter)
+
+pub figures-decided : (counts : Counts) (numbers : List ℕ) (row : ℕ) {meter : MeterRow} → meter ≡ meter-answer counts numbers row
+    → Decided (meter-check counts numbers row) (figures-of counts (col numbers) row) no-figures (meter-verdict meter)
+figures-decided counts numbers row = decided meter-where meter-verdict refl (λ refusal. refl) (row-numbered counts numbers row Meter)
 
 delivered-numbered : (counts : Counts) (numbers : List ℕ) (row room : ℕ) → AllNumbered (delivered-check counts numbers row room)
 unfolding delivered-check

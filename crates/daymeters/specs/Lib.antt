@@ -1,3 +1,4 @@
 pub mod Meter
 pub mod Figures
 pub mod Hours
+pub mod Private

@@ -1,13 +1,10 @@
 -- The meter table: where a row's numbers stand, and its tests.
-use mathlib.Core.Path.{_≡_}
-use mathlib.Core.Bool.{false}
 use mathlib.Core.List.{List}
-use Prim.Native.Nat.{ℕ, _+_, _<_}
+use Prim.Native.Nat.{ℕ, _+_}
 use Rattle.units.specs.declared.refusal.Check.{Check}
 use Rattle.dayformat.specs.declared.form.Tag.the-variants.{Meter}
 use Rattle.dayformat.specs.declared.layout.Counts.{Counts}
-use Rattle.dayformat.specs.Format.{form}
-use Rattle.dayvalues.specs.Row.{number-at, beyond, row-check}
+use Rattle.dayvalues.specs.Row.{number-at, row-check}
 
 -- refused: 9; 3 a count, a row beyond its count, one of its numbers
 abbrev pub meter-check : Counts → List ℕ → ℕ → Check
@@ -28,7 +25,3 @@ received-at = delivered-at + 24
 
 abbrev pub sides-at : ℕ
 sides-at = received-at + 24
-
--- every number of the row is within its bounds
-abbrev pub Bounded : Counts → (ℕ → ℕ) → ℕ → Type 0
-Bounded counts numbers row = (place : ℕ) → place < form Meter .columns → beyond counts numbers Meter row place ≡ false

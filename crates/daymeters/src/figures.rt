@@ -1,5 +1,6 @@
 // A meter's single figures.
 use crate::check_meter;
+use crate::hours::RECEIVED;
 use dayformat::Counts;
 use dayformat::Tag;
 use dayvalues::number_at;
@@ -7,12 +8,14 @@ use metered::Side;
 use units::Check;
 use units::Gigajoules;
 use units::Megajoules;
+use units::Refusal;
 ghost use mathlib.Core.Path.{_≡_};
 ghost use Prim.Native.Nat.{_≤_};
 ghost use Rattle.columns.specs.Column.{col};
 ghost use Rattle.units.specs.Bound.{most-gigajoules};
-ghost use Rattle.daymeters.specs.Meter.{meter-at, Bounded};
-ghost use Rattle.daymeters.specs.Figures.{side-of, figures-of, meter-figures};
+ghost use Rattle.daymeters.specs.Meter.{meter-at};
+ghost use Rattle.daymeters.specs.Private.{Bounded};
+ghost use Rattle.daymeters.specs.Figures.{side-of, figures-of, meter-answer};
 
 pub struct MeterFigures {
     pub shipper: u16,
@@ -22,22 +25,14 @@ pub struct MeterFigures {
     pub delivery: Side,
 }
 
+// A row's single figures, or why they are refused.
+pub enum MeterRow {
+    Meter(MeterFigures),
+    Refused(Refusal),
+}
+
 // Where the figures of the sides begin.
-const SIDES: u32 = 62;
-
-const NO_SIDE: Side = Side {
-    forward: Gigajoules(0),
-    backhaul: Gigajoules(0),
-    metered: Megajoules(0),
-};
-
-const NO_FIGURES: MeterFigures = MeterFigures {
-    shipper: 0,
-    p: Gigajoules(0),
-    m: Gigajoules(0),
-    receipt: NO_SIDE,
-    delivery: NO_SIDE,
-};
+const SIDES: u32 = RECEIVED + 24;
 
 // The gigajoules at a place.
 fn gigajoules_at(counts: Counts, numbers: &[usize], row: u32, place: u32) -> Gigajoules
@@ -80,13 +75,13 @@ fn figures_of(counts: Counts, numbers: &[usize], row: u32) -> MeterFigures
     }
 }
 
-// All zero where `check_meter` refuses.
-pub fn meter_figures(counts: Counts, numbers: &[usize], row: u32) -> MeterFigures
-    ensures { λ r. ⌜ r ≡ meter-figures counts (now (numbers .entry)) row ⌝ }
+// The single figures of a row.
+pub fn meter_figures(counts: Counts, numbers: &[usize], row: u32) -> MeterRow
+    ensures { λ r. ⌜ r ≡ meter-answer counts (now (numbers .entry)) row ⌝ }
 {
     let found = check_meter(counts, numbers, row);
     match found {
-        Check::Refused(_) => NO_FIGURES,
-        Check::Accepted => figures_of(counts, numbers, row),
+        Check::Refused(refusal) => MeterRow::Refused(refusal),
+        Check::Accepted => MeterRow::Meter(figures_of(counts, numbers, row)),
     }
 }

@@ -14,9 +14,9 @@ ghost use Rattle.daymeters.specs.Hours.{hours-from, megajoules, meter-ye
 // Where the hours begin.
 const YESTERDAY: u32 = 3;
 
-const DELIVERED: u32 = 14;
+const DELIVERED: u32 = YESTERDAY + 11;
 
-const RECEIVED: u32 = 38;
+pub const RECEIVED: u32 = DELIVERED + 24;
 
 fn yesterday_of(counts: Counts, numbers: &[usize], row: u32) -> [Megajoules; 11]
     ensures { λ r. ⌜ r ≡ megajoules (hours-from counts (col (now (numbers .entry))) row yesterday-at 11) ⌝ }

@@ -1,4 +1,4 @@
-// A meter of a day's block, a shipper's metered day, opened. An enum can't hold an array, so the figures stand beside the check.
+// A meter of a day's block, a shipper's metered day, opened. An enum can't hold an array, so the hours stand beside the check.
 mod figures;
 mod hours;
 
@@ -6,6 +6,7 @@ use dayformat::Counts;
 use dayformat::Tag;
 use dayvalues::check_row;
 pub use figures::MeterFigures;
+pub use figures::MeterRow;
 pub use figures::meter_figures;
 pub use hours::meter_delivered;
 pub use hours::meter_hours;

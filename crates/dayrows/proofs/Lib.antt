@@ -4,3 +4,4 @@ pub mod Same
 pub mod Searches
 pub mod Sound
 pub mod Within
+pub mod SoundRows

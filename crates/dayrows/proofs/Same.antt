@@ -17,7 +17,7 @@ use Rattle.dayrows.specs.declared.Source.{Source}
 use Rattle.dayrows.specs.declared.Source.the-variants.{File, Side}
 use Rattle.dayrows.specs.declared.Test.{Test}
 use Rattle.dayrows.specs.declared.Test.the-variants.{Bounds, Key, Mdq}
-use Rattle.dayrows.specs.Test.{within, bounded, difference, less, rises, lists, named, names-known, starved, passes, fault}
+use Rattle.dayrows.specs.Test.{in-bounds, bounded, difference, less, rises, lists, named, names-known, starved, passes, fault}
 
 -- the tables before a tag's have as many rows
 abbrev pub Earlier : Tag → Counts → Counts → Type 0
@@ -58,7 +58,7 @@ module _ (f g : ℕ → ℕ) where
   unfolding bounded
   bounded-same tag at same =
       ap (leb (form tag .columns))
-      (first-same _ _ _ (λ place l. ap (λ number. not (within (column-in (body tag) place) number)) (same place l)))
+      (first-same _ _ _ (λ place l. ap (λ number. not (in-bounds (column-in (body tag) place) number)) (same place l)))
 
   difference-same : (many one other : ℕ) → From one many → From other many → difference f many one other ≡ difference g many one other
   unfolding difference

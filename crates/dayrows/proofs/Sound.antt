@@ -10,12 +10,12 @@ use Rattle.dayformat.specs.declared.form.Tag.the-variants.{Shipper, Point}
 use Rattle.dayformat.specs.declared.layout.Counts.{Counts}
 use Rattle.dayformat.specs.Format.{body, column-in, form}
 use Rattle.dayformat.specs.Layout.{count, table-start, row-start}
-use Rattle.dayrows.specs.Test.{within, bounded, difference, lists}
+use Rattle.dayrows.specs.Test.{in-bounds, bounded, difference, lists}
 use Rattle.dayrows.proofs.Searches.{witnessed, unmarked}
 
 -- each of its numbers is within its bounds
 pub bounded-by : (f : ℕ → ℕ) (tag : Tag) (at : ℕ)
-    → ((place : ℕ) → place < form tag .columns → within (column-in (body tag) place) (f (at + place)) ≡ true) → bounded f tag at ≡ true
+    → ((place : ℕ) → place < form tag .columns → in-bounds (column-in (body tag) place) (f (at + place)) ≡ true) → bounded f tag at ≡ true
 unfolding bounded
 bounded-by f tag at all = unmarked _ (form tag .columns) (λ place l. rw (all place l))
 

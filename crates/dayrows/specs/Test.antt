@@ -17,13 +17,13 @@ use Rattle.dayrows.specs.declared.Test.the-variants.{Bounds, Key, Mdq}
 
 -- ---- 3
 -- a number within its bounds
-abbrev pub within : Column → ℕ → Bool
-within column number = cond (leb (column .low) number) (leb number (column .high)) false
+abbrev pub in-bounds : Column → ℕ → Bool
+in-bounds column number = cond (leb (column .low) number) (leb number (column .high)) false
 
 -- every number of the row that begins at a place is within its bounds
 unfoldable pub bounded : (ℕ → ℕ) → Tag → ℕ → Bool
 bounded numbers tag at =
-    leb (form tag .columns) (first (form tag .columns) (λ place. not (within (column-in (body tag) place) (numbers (at + place)))))
+    leb (form tag .columns) (first (form tag .columns) (λ place. not (in-bounds (column-in (body tag) place) (numbers (at + place)))))
 
 -- in a list of one side's entries, an entry of the other side is beyond its bound
 abbrev pub of-side : Source → ℕ → Bool

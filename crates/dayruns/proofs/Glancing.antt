@@ -25,7 +25,7 @@ use Rattle.dayfields.specs.Field.{broken, with-row, Taken}
 use Rattle.dayfields.proofs.Taking.{taken-whole}
 use Rattle.daybodies.specs.Body.{ready, orderly, BodyRead}
 use Rattle.daybodies.proofs.Bodies.{is-ready, kept-row}
-use Rattle.dayruns.specs.Glance.{Glanced}
+use Rattle.dayruns.specs.Private.{Glanced}
 
 -- ---- numbers laid twice
 module _ (vs l : List ℕ) (i : ℕ) (room : i + length vs ≤ length l) where

@@ -11,7 +11,7 @@ use borrow.Author.Tests.{eq-eqb, ne-eqb, ltb-true, eqb-true, eqb-false}
 use lib.Dec.{eqb}
 use lib.ListN.{length}
 use lib.Seq.{sets, length-sets}
-use Rattle.columns.specs.Column.{col}
+use Rattle.columns.specs.Column.{col, joined}
 use Rattle.columns.specs.First.{first}
 use Rattle.columns.proofs.Firsts.{Searched, searched-none, searched-more, first-marked}
 use Rattle.columns.proofs.Firsts as firsts
@@ -20,8 +20,7 @@ use Rattle.bigendian.proofs.Rows.{length-decode}
 use Rattle.dayformat.specs.declared.form.Tag.{Tag}
 use Rattle.dayformat.specs.Format.{widths, field-size, form}
 use Rattle.dayformat.specs.Layout.{table-start}
-use Rattle.dayformat.specs.Table.{joined}
-use Rattle.dayformat.proofs.Tables.{length-joined}
+use Rattle.columns.proofs.Joined.{length-joined}
 use Rattle.dayrows.specs.declared.Test.the-variants as Test
 use Rattle.dayrows.specs.Test.{fault}
 use Rattle.dayrows.proofs.Faults.{fault-none}

@@ -1,3 +1,3 @@
-pub mod Glance
 pub mod Run
 pub mod Walk
+pub mod Private

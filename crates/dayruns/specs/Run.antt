@@ -6,14 +6,13 @@ use Prim.Native.Nat.{ℕ, suc, _+_, _*_}
 use lib.Dec.{ltb, eqb}
 use lib.ListN.{length, drop}
 use lib.Seq.{sets}
-use Rattle.columns.specs.Column.{col}
+use Rattle.columns.specs.Column.{col, joined}
 use Rattle.columns.specs.First.{first}
 use Rattle.bigendian.specs.Row.{decode}
 use Rattle.dayformat.specs.declared.form.Tag.{Tag}
 use Rattle.dayformat.specs.declared.layout.Counts.{Counts}
-use Rattle.dayformat.specs.Format.{widths, field-size, form}
+use Rattle.dayformat.specs.Format.{widths, header, field-size, form}
 use Rattle.dayformat.specs.Layout.{table-start}
-use Rattle.dayformat.specs.Table.{joined}
 use Rattle.dayrows.specs.declared.Source.{Source}
 use Rattle.dayrows.specs.Test.{fault}
 use Rattle.dayfields.specs.Field.{broken}
@@ -32,7 +31,7 @@ abbrev pub place-of : Fields → ℕ → ℕ
 place-of F row = F .at + row * field-size (F .tag)
 
 abbrev pub row-of : Fields → ℕ → List ℕ
-row-of F row = decode (widths (F .tag)) (drop (place-of F row + 3) (F .file))
+row-of F row = decode (widths (F .tag)) (drop (place-of F row + header) (F .file))
 
 abbrev pub rows-of : Fields → ℕ → List ℕ
 rows-of F many = joined many (row-of F)

@@ -8,6 +8,7 @@ use Rattle.units.specs.declared.refusal.Check.{Check}
 use Rattle.units.specs.declared.refusal.Check.the-variants as Check
 use Rattle.units.specs.Refusals.{at-byte}
 use Rattle.dayformat.specs.declared.form.Tag.{Tag}
+use Rattle.dayformat.specs.Format.{header}
 use Rattle.dayformat.specs.Layout.{with-count}
 use Rattle.dayruns.specs.declared.run.Run.{Run}
 use Rattle.dayruns.specs.declared.walk.Walk.{Walk}
@@ -22,7 +23,7 @@ unfoldable pub ended : List ℕ → Walk → Walk
 ended file walk =
     cond (eqb (walk .fault) 0)
     (cond (leb (length file) (walk .place)) walk
-    (record { fault = cond (ltb (length file) (walk .place + 3)) 1 2; place = walk .place; counts = walk .counts }))
+    (record { fault = cond (ltb (length file) (walk .place + header)) 1 2; place = walk .place; counts = walk .counts }))
     walk
 
 -- the first faulty field, at its first byte

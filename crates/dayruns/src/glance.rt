@@ -13,7 +13,7 @@ use dayrows::Source;
 ghost use mathlib.Core.Path.{_≡_};
 ghost use mathlib.Core.Bool.{true};
 ghost use Rattle.dayrows.specs.declared.Source.the-variants.{File};
-ghost use Rattle.dayruns.specs.Glance.{Glanced};
+ghost use Rattle.dayruns.specs.Private.{Glanced};
 
 // Whether a field is seen to be sound, and the rows that its names were found in.
 pub struct Glance {

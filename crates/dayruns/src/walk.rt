@@ -1,5 +1,6 @@
 // A file or a list of entries read up to a place.
 use dayformat::Counts;
+use dayformat::HEADER;
 use units::Check;
 use units::Refusal;
 ghost use mathlib.Core.Path.{_≡_};
@@ -25,7 +26,7 @@ impl Walk {
         if file.len() <= place {
             return self;
         }
-        if file.len() - place < 3 {
+        if file.len() - place < HEADER {
             return Walk {
                 fault: 1,
                 place,

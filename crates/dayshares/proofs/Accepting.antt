@@ -4,7 +4,7 @@ use Prim.Native.Nat.{ℕ}
 use native.Mathlib.Omega.{arith}
 use Rattle.daytable.specs.Table.{Table}
 use Rattle.daytable.proofs.Accepting.{Accepting}
-use Rattle.dayshares.specs.Leaves.{DayReady}
+use Rattle.dayshares.specs.Private.{DayReady}
 
 pub ready : (T : Table) (firm-room auction-room lower-tier-room : ℕ) → Accepting T firm-room auction-room lower-tier-room
     → DayReady T firm-room auction-room lower-tier-room

@@ -7,19 +7,19 @@ use Rattle.units.specs.declared.refusal.Check.{Check}
 use Rattle.dayshares.specs.declared.Shares.{Shares}
 use Rattle.dayshares.specs.declared.Day.{Day}
 use Rattle.daytable.specs.Table.{Table}
-use Rattle.daytable.specs.Acceptance.{check}
-use Rattle.dayshares.specs.Answer.{Answered}
-use Rattle.dayshares.specs.Leaves.{DayShared}
+use Rattle.daytable.specs.Acceptance.{table-check}
+use Rattle.dayshares.specs.Answer.{SharesAnswered}
+use Rattle.dayshares.specs.Private.{DayShared}
 
 module _ (T : Table) (firm auction lower-tier : List Prim.Native.Nat.ℕ) where
-  pub refuses : (x : Refusal) → check T (length firm) (length auction) (length lower-tier) ≡ Check.Refused x
-      → Answered T firm auction lower-tier (Day.Refused x) firm auction lower-tier
+  pub refuses : (x : Refusal) → table-check T (length firm) (length auction) (length lower-tier) ≡ Check.Refused x
+      → SharesAnswered T firm auction lower-tier (Day.Refused x) firm auction lower-tier
   refuses x e = record { answers = rw e; leaves-firm = rw e; leaves-auction = rw e; leaves-lower-tier = rw e }
 
   pub shares-out : (s : Shares) (firm′ auction′ lower-tier′ : List Prim.Native.Nat.ℕ)
-      → check T (length firm) (length auction) (length lower-tier) ≡ Check.Accepted
+      → table-check T (length firm) (length auction) (length lower-tier) ≡ Check.Accepted
       → DayShared T firm auction lower-tier s firm′ auction′ lower-tier′
-      → Answered T firm auction lower-tier (Day.Shared s) firm′ auction′ lower-tier′
+      → SharesAnswered T firm auction lower-tier (Day.Shared s) firm′ auction′ lower-tier′
   shares-out s firm′ auction′ lower-tier′ e D =
       record {
         answers = rw (e, D .gives);

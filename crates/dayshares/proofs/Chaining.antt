@@ -10,10 +10,11 @@ use Rattle.columns.specs.Column.{col, listed}
 use Rattle.columns.specs.Sum.{sum}
 use Rattle.columns.proofs.Lists.{col-sets, length-sets-listed, listed-same, sets-again}
 use Rattle.units.specs.Bound.{most-capacity, most-rows}
-use Rattle.sharing.specs.Round.{level, shares, Small}
+use Rattle.sharing.specs.Round.{level, shares}
+use Rattle.sharing.specs.Private.{Small}
 use Rattle.sharing.specs.Chain.{unmet, after}
 use Rattle.rounds.specs.declared.Given.{Given}
-use Rattle.dayshares.specs.Leaves.{NextReady, NextHeld}
+use Rattle.dayshares.specs.Private.{NextReady, NextHeld}
 
 -- the weights w stand in ws, the needs in qs, and what the n rows had, s, at the front of a lent list
 pub record Chained (n : ℕ) (w s : ℕ → ℕ) (ws qs lent had : List ℕ) : Type 0 where

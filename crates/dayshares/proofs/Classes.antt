@@ -8,7 +8,8 @@ use lib.Dec.{ltb}
 use Rattle.columns.specs.Sum.{sum}
 use Rattle.columns.proofs.Firsts.{first-same, first-passed, first-marked}
 use Rattle.columns.proofs.Sums.{sum-same}
-use Rattle.sharing.specs.Round.{shares, Small, Weighted}
+use Rattle.sharing.specs.Round.{shares}
+use Rattle.sharing.specs.Private.{Small, Weighted}
 use Rattle.sharing.proofs.Levels.{level-fits, shortfall}
 use Rattle.dayshares.specs.Class.{first-short, full, class-given}
 

@@ -10,13 +10,14 @@ use Rattle.columns.proofs.Lists.{made-col, made-rest}
 use Rattle.units.specs.Verdict.{Decided}
 use Rattle.units.proofs.Verdicts.{decided}
 use Rattle.daytable.specs.Table.{Table, rows}
-use Rattle.daytable.specs.Acceptance.{check}
+use Rattle.daytable.specs.Acceptance.{table-check}
 use Rattle.daytable.proofs.Accepting.{accepting}
 use Rattle.daytable.proofs.Decided.{check-numbered}
 use Rattle.dayshares.specs.declared.Day.{Day}
-use Rattle.dayshares.specs.Given.{firm as firm-of, auction-held, auction-offered, lower-tier-held, lower-tier-offered}
-use Rattle.dayshares.specs.Answer.{shares, answer, verdict, Answered}
-use Rattle.dayshares.specs.Promise.{Kept}
+use Rattle.dayshares.specs.Given.{auction-held, auction-offered, lower-tier-held, lower-tier-offered}
+use Rattle.dayshares.specs.Firm.{firm as firm-of}
+use Rattle.dayshares.specs.Answer.{day-shares, shares-answer, shares-verdict, SharesAnswered}
+use Rattle.dayshares.specs.Promise.{SharesKept}
 use Rattle.dayshares.proofs.Classes.{class-le}
 use Rattle.dayshares.proofs.Firms.{firm-le}
 use Rattle.dayshares.proofs.Promises.{promises}
@@ -31,9 +32,9 @@ front n schedule lent {after} {given} low long fits is = (
 )
 
 module _ {T : Table} {firm-lent auction-lent lower-tier-lent : List ℕ} {day : Day} {firm-after auction-after lower-tier-after : List ℕ}
-    (A : Answered T firm-lent auction-lent lower-tier-lent day firm-after auction-after lower-tier-after) where
+    (A : SharesAnswered T firm-lent auction-lent lower-tier-lent day firm-after auction-after lower-tier-after) where
   pub day-decided :
-      Decided (check T (length firm-lent) (length auction-lent) (length lower-tier-lent)) (shares T)
+      Decided (table-check T (length firm-lent) (length auction-lent) (length lower-tier-lent)) (day-shares T)
       (record {
         levels = record { one = 0; two = 0; three = 0; auction = 0; «lower_tier» = 0 };
         firm = record { 0 = 0 };
@@ -41,11 +42,11 @@ module _ {T : Table} {firm-lent auction-lent lower-tier-lent : List ℕ} {day : 
         «lower_tier» = record { 0 = 0 };
         left = record { 0 = 0 };
       })
-      (verdict day)
-  day-decided = decided answer verdict refl (λ refusal. refl) (check-numbered T _ _ _) (A .answers)
+      (shares-verdict day)
+  day-decided = decided shares-answer shares-verdict refl (λ refusal. refl) (check-numbered T _ _ _) (A .answers)
 
-  pub day-kept : verdict day .number ≡ 0
-      → Kept T firm-lent auction-lent lower-tier-lent day firm-after auction-after lower-tier-after
+  pub day-kept : shares-verdict day .number ≡ 0
+      → SharesKept T firm-lent auction-lent lower-tier-lent day firm-after auction-after lower-tier-after
   day-kept zero =
       let accepted = day-decided .exactly zero in
       let told = day-decided .accepted accepted .2 in

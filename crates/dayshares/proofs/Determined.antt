@@ -5,10 +5,10 @@ use Prim.Native.Nat.{ℕ}
 use Rattle.units.proofs.Determined.{determined}
 use Rattle.dayshares.specs.declared.Day.{Day}
 use Rattle.daytable.specs.Table.{Table}
-use Rattle.dayshares.specs.Answer.{Answered}
+use Rattle.dayshares.specs.Answer.{SharesAnswered}
 
 pub day-determined : {T : Table} {firm auction lower-tier : List ℕ} {d₁ d₂ : Day} {f₁ f₂ a₁ a₂ l₁ l₂ : List ℕ}
-    → Answered T firm auction lower-tier d₁ f₁ a₁ l₁ → Answered T firm auction lower-tier d₂ f₂ a₂ l₂
+    → SharesAnswered T firm auction lower-tier d₁ f₁ a₁ l₁ → SharesAnswered T firm auction lower-tier d₂ f₂ a₂ l₂
     → (d₁ ≡ d₂) × (f₁ ≡ f₂) × (a₁ ≡ a₂) × (l₁ ≡ l₂)
 day-determined a b = (
   determined (a .answers) (b .answers),

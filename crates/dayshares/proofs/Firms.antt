@@ -2,7 +2,7 @@
 use Prim.Native.Nat.{ℕ, _+_, _-_, _≤_, _<_, min}
 use native.Mathlib.Omega.{arith}
 use Rattle.columns.specs.Sum.{sum}
-use Rattle.sharing.specs.Round.{Small, Weighted}
+use Rattle.sharing.specs.Private.{Small, Weighted}
 use Rattle.sharing.specs.Part.{part}
 use Rattle.sharing.proofs.Levels.{level-fits}
 use Rattle.sharing.proofs.Parts.{pro-rata}

@@ -11,8 +11,8 @@ use Rattle.columns.proofs.Lists.{col-listed, listed-same, made-part, made-long,
 use Rattle.sharing.specs.Round.{level, shares}
 use Rattle.sharing.specs.Chain.{unmet, after}
 use Rattle.rounds.specs.declared.Given.{Given}
-use Rattle.rounds.specs.Rows.{Ready}
-use Rattle.dayshares.specs.Leaves.{Held, NextReady, NextHeld}
+use Rattle.rounds.specs.Private.{Ready}
+use Rattle.dayshares.specs.Private.{Held, NextReady, NextHeld}
 
 -- ---- the needs are made
 pub record Needed : Type 0 where

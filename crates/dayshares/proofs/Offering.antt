@@ -10,7 +10,7 @@ use Rattle.columns.specs.Column.{listed}
 use Rattle.columns.proofs.Sums.{sum-same}
 use Rattle.rounds.specs.declared.Given.{Given}
 use Rattle.dayshares.specs.Class.{class-level, class-given}
-use Rattle.dayshares.specs.Leaves.{Held, Offered}
+use Rattle.dayshares.specs.Private.{Held, Offered}
 
 module _ (c : ℕ) (ws qs lent : List ℕ) where
   pub offers : (held : Bool) (g : Given) (lent′ : List ℕ) → held ≡ true → Held c ws qs lent g lent′ → Offered held c ws qs lent g lent′

@@ -8,23 +8,12 @@ use Rattle.columns.specs.Column.{col}
 use Rattle.units.specs.declared.refusal.Check.{Check}
 use Rattle.dayshares.specs.Class.{full}
 use Rattle.daytable.specs.Table.{Table, rows}
-use Rattle.dayshares.specs.Given.{
-  firm,
-  firm-given,
-  auction-held,
-  auction-offered,
-  auction-given,
-  auction-total,
-  lower-tier-held,
-  lower-tier-offered,
-  lower-tier-given,
-  lower-tier-total,
-  left,
-}
-use Rattle.daytable.specs.Acceptance.{check}
+use Rattle.dayshares.specs.Given.{firm-given, auction-held, auction-offered, auction-given, auction-total, lower-tier-held, lower-tier-offered, lower-tier-given, lower-tier-total, left}
+use Rattle.dayshares.specs.Firm.{firm}
+use Rattle.daytable.specs.Acceptance.{table-check}
 use Rattle.dayshares.specs.Promise.{Promise}
 use Rattle.daytable.proofs.Accepting.{Accepting, accepting}
-use Rattle.dayshares.specs.Leaves.{DayReady}
+use Rattle.dayshares.specs.Private.{DayReady}
 use Rattle.dayshares.proofs.Accepting.{ready}
 use Rattle.dayshares.proofs.Classes.{class-le, class-fits, class-held, class-short, full-rows, short-row}
 use Rattle.dayshares.proofs.Firms.{firm-le, firm-fits, firm-short, firm-floor}
@@ -105,7 +94,7 @@ module _ (T : Table) (firm-room auction-room lower-tier-room : ℕ) (A : Accepti
 
 -- every accepted table keeps demand 3
 pub promises : (T : Table) (firm-room auction-room lower-tier-room : ℕ)
-    → check T firm-room auction-room lower-tier-room ≡ Check.Accepted
+    → table-check T firm-room auction-room lower-tier-room ≡ Check.Accepted
     → Promise T (firm-given T) (auction-given T) (lower-tier-given T) (left T)
 promises T firm-room auction-room lower-tier-room accepted =
     let A = accepting T firm-room auction-room lower-tier-room accepted in

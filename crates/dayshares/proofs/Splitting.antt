@@ -9,7 +9,7 @@ use Rattle.columns.specs.Column.{col, listed}
 use Rattle.columns.proofs.Lists.{made-long, made-col}
 use Rattle.dayshares.specs.declared.firm.FirmGiven.{FirmGiven}
 use Rattle.dayshares.specs.Firm.{three-quarters, firm-of}
-use Rattle.dayshares.specs.Leaves.{Split, FirmHeld}
+use Rattle.dayshares.specs.Private.{Split, FirmHeld}
 
 module _ (ms zeros made : List ℕ) (room : length ms ≤ length zeros)
     (is : made ≡ sets zeros 0 (listed (length ms) (λ i. three-quarters (col ms i)))) where

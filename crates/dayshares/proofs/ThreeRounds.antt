@@ -14,9 +14,9 @@ use Rattle.sharing.specs.Chain.{unmet}
 use Rattle.sharing.proofs.Levels.{level-fits}
 use Rattle.sharing.proofs.Chains.{after-le, after-sum}
 use Rattle.rounds.specs.declared.Given.{Given}
-use Rattle.rounds.specs.Rows.{Ready}
+use Rattle.rounds.specs.Private.{Ready}
 use Rattle.dayshares.specs.Firm.{Firm, firm-of, level-one, compressor-mdq, given-one, given-two, given-firm, left-two}
-use Rattle.dayshares.specs.Leaves.{Held, NextReady, NextHeld, FirmReady, Split, FirmHeld}
+use Rattle.dayshares.specs.Private.{Held, NextReady, NextHeld, FirmReady, Split, FirmHeld}
 use Rattle.dayshares.proofs.Chaining.{Chained, chain-ready, chain-level, chain-total, chain-front}
 
 -- ---- before the rounds

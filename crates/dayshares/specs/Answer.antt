@@ -9,26 +9,15 @@ use Rattle.units.specs.declared.refusal.Check.{Check}
 use Rattle.units.specs.Refusals.{accepted-or}
 use Rattle.units.specs.Verdict.{Verdict, accepting, refusing}
 use Rattle.daytable.specs.Table.{Table, rows}
-use Rattle.daytable.specs.Acceptance.{check}
+use Rattle.daytable.specs.Acceptance.{table-check}
 use Rattle.dayshares.specs.declared.Shares.{Shares}
 use Rattle.dayshares.specs.declared.Day.{Day}
-use Rattle.dayshares.specs.Firm.{level-one, level-two, level-three}
-use Rattle.dayshares.specs.Given.{
-  firm,
-  firm-given,
-  firm-total,
-  auction-level,
-  auction-given,
-  auction-total,
-  lower-tier-level,
-  lower-tier-given,
-  lower-tier-total,
-  left,
-}
+use Rattle.dayshares.specs.Firm.{level-one, level-two, level-three, firm}
+use Rattle.dayshares.specs.Given.{firm-given, firm-total, auction-level, auction-given, auction-total, lower-tier-level, lower-tier-given, lower-tier-total, left}
 
 -- the five levels, the total of each class, and LEFT
-abbrev pub shares : Table → Shares
-shares T =
+abbrev pub day-shares : Table → Shares
+day-shares T =
     record {
       levels =
           record {
@@ -44,14 +33,14 @@ shares T =
       left = record { 0 = left T };
     }
 
-abbrev pub answer : Check → Shares → Day
-answer Check.Accepted s = Day.Shared s
-answer (Check.Refused x) s = Day.Refused x
+abbrev pub shares-answer : Check → Shares → Day
+shares-answer Check.Accepted s = Day.Shared s
+shares-answer (Check.Refused x) s = Day.Refused x
 
 -- 01's number, place and figures of each case
-abbrev pub verdict : Day → Verdict Shares
-verdict (Day.Shared s) = accepting s
-verdict (Day.Refused x) =
+abbrev pub shares-verdict : Day → Verdict Shares
+shares-verdict (Day.Shared s) = accepting s
+shares-verdict (Day.Refused x) =
     refusing x
     (record {
       levels = record { one = 0; two = 0; three = 0; auction = 0; «lower_tier» = 0 };
@@ -62,18 +51,22 @@ verdict (Day.Refused x) =
     })
 
 -- a lent list afterwards: a class's shares at its front where accepted, as it was where refused
-abbrev pub leaves : Check → ℕ → (ℕ → ℕ) → List ℕ → List ℕ
-leaves found n given lent = accepted-or found (sets lent 0 (listed n given)) lent
+abbrev pub class-afterwards : Check → ℕ → (ℕ → ℕ) → List ℕ → List ℕ
+class-afterwards found n given lent = accepted-or found (sets lent 0 (listed n given)) lent
 
 -- the statement of `share_day`: its answer, and the three lent lists before and after
-pub record Answered (T : Table) (firm-lent auction-lent lower-tier-lent : List ℕ) (day : Day)
+pub record SharesAnswered (T : Table) (firm-lent auction-lent lower-tier-lent : List ℕ) (day : Day)
     (firm-after auction-after lower-tier-after : List ℕ) : Type 0 where
-  pub answers : day ≡ answer (check T (length firm-lent) (length auction-lent) (length lower-tier-lent)) (shares T)
+  pub answers : day ≡ shares-answer (table-check T (length firm-lent) (length auction-lent) (length lower-tier-lent)) (day-shares T)
   pub leaves-firm :
-      firm-after ≡ leaves (check T (length firm-lent) (length auction-lent) (length lower-tier-lent)) (rows T) (firm-given T) firm-lent
+      firm-after
+      ≡ class-afterwards (table-check T (length firm-lent) (length auction-lent) (length lower-tier-lent)) (rows T)
+      (firm-given T) firm-lent
   pub leaves-auction :
       auction-after
-      ≡ leaves (check T (length firm-lent) (length auction-lent) (length lower-tier-lent)) (rows T) (auction-given T) auction-lent
+      ≡ class-afterwards (table-check T (length firm-lent) (length auction-lent) (length lower-tier-lent)) (rows T)
+      (auction-given T) auction-lent
   pub leaves-lower-tier :
       lower-tier-after
-      ≡ leaves (check T (length firm-lent) (length auction-lent) (length lower-tier-lent)) (rows T) (lower-tier-given T) lower-tier-lent
+      ≡ class-afterwards (table-check T (length firm-lent) (length auction-lent) (length lower-tier-lent)) (rows T)
+      (lower-tier-given T) lower-tier-lent

@@ -1,20 +1,22 @@
--- 01, "A day's shares" (cl. 3.2): the three firm rounds, for any Free Flow MDQ of at most the firm MDQ.
+-- 01, "A day's shares" (cl. 3.2): the three firm rounds. The rounds take any Free Flow MDQ of at most the firm MDQ; a table has 75/25.
 use mathlib.Core.List.{List}
 use Prim.Native.Nat.{ℕ, _+_, _*_, _-_, _/_}
 use lib.ListN.{length}
 use Rattle.columns.specs.Column.{col}
 use Rattle.columns.specs.Sum.{sum}
 use Rattle.units.specs.declared.Gigajoules.{Gigajoules}
+use Rattle.daytable.specs.Table.{Table}
 use Rattle.sharing.specs.Round.{level, shares}
 use Rattle.sharing.specs.Chain.{unmet, after}
 
--- three quarters of the firm MDQ rounded down (75/25 in cl. 15.3)
+-- a row's Free Flow MDQ is three quarters of its firm MDQ rounded down (75/25 in cl. 15.3)
 abbrev pub three-quarters : ℕ → ℕ
 three-quarters mdq = 3 * mdq / 4
 
 abbrev pub free-flow-mdq : Gigajoules → Gigajoules
 free-flow-mdq mdq = record { 0 = three-quarters (mdq .0) }
 
+-- what the firm rounds are held with
 pub record Firm : Type 0 where
   pub rows : ℕ
   pub free-flow : ℕ
@@ -23,7 +25,7 @@ pub record Firm : Type 0 where
   pub firm-mdq : ℕ → ℕ
   pub schedule : ℕ → ℕ
 
--- the firm rows of a table's lists, with a Free Flow MDQ for each
+-- of lists, with a Free Flow MDQ for each row
 abbrev pub firm-of : ℕ → ℕ → (ℕ → ℕ) → List ℕ → List ℕ → Firm
 firm-of free-flow compressor free-flow-mdq mdqs schedules =
     record {
@@ -34,6 +36,11 @@ firm-of free-flow compressor free-flow-mdq mdqs schedules =
       firm-mdq = col mdqs;
       schedule = col schedules;
     }
+
+-- those of a table: 75/25 for every row
+abbrev pub firm : Table → Firm
+firm T =
+    firm-of (T .free-flow) (T .compressor) (λ i. three-quarters (col (T .firm-mdq) i)) (T .firm-mdq) (T .firm-schedule)
 
 -- the rest of the firm MDQ is Compressor MDQ
 abbrev pub compressor-mdq : Firm → ℕ → ℕ

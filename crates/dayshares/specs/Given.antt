@@ -4,13 +4,8 @@ use Prim.Native.Nat.{ℕ, _+_, _-_}
 use Rattle.columns.specs.Column.{col}
 use Rattle.columns.specs.Sum.{sum}
 use Rattle.daytable.specs.Table.{Table, rows}
-use Rattle.dayshares.specs.Firm.{Firm, firm-of, three-quarters, given-firm}
+use Rattle.dayshares.specs.Firm.{firm, given-firm}
 use Rattle.dayshares.specs.Class.{full, class-level, class-given}
-
--- firm first; a row's Free Flow MDQ is three quarters of its firm MDQ
-abbrev pub firm : Table → Firm
-firm T =
-    firm-of (T .free-flow) (T .compressor) (λ i. three-quarters (col (T .firm-mdq) i)) (T .firm-mdq) (T .firm-schedule)
 
 abbrev pub firm-given : Table → ℕ → ℕ
 firm-given T = given-firm (firm T)

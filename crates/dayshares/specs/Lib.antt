@@ -2,5 +2,5 @@ pub mod Firm
 pub mod Class
 pub mod Given
 pub mod Answer
-pub mod Leaves
 pub mod Promise
+pub mod Private

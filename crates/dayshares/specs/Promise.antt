@@ -8,9 +8,8 @@ use Rattle.columns.specs.Sum.{sum}
 use Rattle.sharing.specs.Part.{part}
 use Rattle.daytable.specs.Table.{Table, rows}
 use Rattle.dayshares.specs.declared.Day.{Day}
-use Rattle.dayshares.specs.Firm.{compressor-mdq}
-use Rattle.dayshares.specs.Given.{firm as firm-of}
-use Rattle.dayshares.specs.Answer.{verdict}
+use Rattle.dayshares.specs.Firm.{compressor-mdq, firm as firm-of}
+use Rattle.dayshares.specs.Answer.{shares-verdict}
 
 -- a firm row's pro-rata parts of free flow and of compressor capacity, each rounded down and lessened by one, never below zero
 abbrev pub firm-floor : Table → ℕ → ℕ
@@ -37,14 +36,14 @@ pub record Promise (T : Table) (firm auction lower-tier : ℕ → ℕ) (left : �
   pub firm-least : (i : ℕ) → i < rows T → min (col (T .firm-schedule) i) (firm-floor T i) ≤ firm i
 
 -- the same of what a caller holds: the fronts of the three lent lists afterwards, and LEFT; the totals are theirs, the rest as it was
-pub record Kept (T : Table) (firm-lent auction-lent lower-tier-lent : List ℕ) (day : Day)
+pub record SharesKept (T : Table) (firm-lent auction-lent lower-tier-lent : List ℕ) (day : Day)
     (firm-after auction-after lower-tier-after : List ℕ) : Type 0 where
   pub promise :
       Promise T (col (take (rows T) firm-after)) (col (take (rows T) auction-after)) (col (take (rows T) lower-tier-after))
-      (verdict day .figures .left .0)
-  pub firm-total : verdict day .figures .firm .0 ≡ sum (rows T) (col (take (rows T) firm-after))
-  pub auction-total : verdict day .figures .auction .0 ≡ sum (rows T) (col (take (rows T) auction-after))
-  pub lower-tier-total : verdict day .figures .«lower_tier» .0 ≡ sum (rows T) (col (take (rows T) lower-tier-after))
+      (shares-verdict day .figures .left .0)
+  pub firm-total : shares-verdict day .figures .firm .0 ≡ sum (rows T) (col (take (rows T) firm-after))
+  pub auction-total : shares-verdict day .figures .auction .0 ≡ sum (rows T) (col (take (rows T) auction-after))
+  pub lower-tier-total : shares-verdict day .figures .«lower_tier» .0 ≡ sum (rows T) (col (take (rows T) lower-tier-after))
   pub firm-rest : drop (rows T) firm-after ≡ drop (rows T) firm-lent
   pub auction-rest : drop (rows T) auction-after ≡ drop (rows T) auction-lent
   pub lower-tier-rest : drop (rows T) lower-tier-after ≡ drop (rows T) lower-tier-lent

@@ -6,7 +6,7 @@ use crate::class::offer;
 use crate::firm::share_firm;
 use units::Gigajoules;
 ghost use lib.ListN.{length};
-ghost use Rattle.dayshares.specs.Leaves.{DayReady, DayShared};
+ghost use Rattle.dayshares.specs.Private.{DayReady, DayShared};
 
 // A day that the tests accept: firm, then auction from what is left, then lower tier from the rest.
 pub fn share_accepted(

@@ -8,9 +8,9 @@ ghost use mathlib.Core.Bool.{cond, false};
 ghost use Prim.Native.Nat.{_≤_};
 ghost use lib.ListN.{length};
 ghost use Rattle.columns.specs.Column.{col};
-ghost use Rattle.rounds.specs.Rows.{Ready};
+ghost use Rattle.rounds.specs.Private.{Ready};
 ghost use Rattle.dayshares.specs.Class.{first-short, full};
-ghost use Rattle.dayshares.specs.Leaves.{Offered};
+ghost use Rattle.dayshares.specs.Private.{Offered};
 
 // One round where the class is held; zero to each row, at level 0, where it is not.
 pub fn offer(held: bool, capacity: u32, weights: &[u32], needs: &[u32], shares: &mut [u32]) -> Given

@@ -6,7 +6,7 @@ use crate::round::hold_next;
 use units::MOST_ROWS;
 ghost use Rattle.columns.specs.Column.{col};
 ghost use Rattle.dayshares.specs.Firm.{firm-of, three-quarters};
-ghost use Rattle.dayshares.specs.Leaves.{FirmReady, Split, FirmHeld};
+ghost use Rattle.dayshares.specs.Private.{FirmReady, Split, FirmHeld};
 
 // The levels of the three firm rounds, and what the rows are given together.
 pub struct FirmGiven {

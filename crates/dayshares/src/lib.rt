@@ -10,7 +10,7 @@ use units::Gigajoules;
 use units::Refusal;
 ghost use mathlib.Core.Path.{_≡_};
 ghost use Rattle.dayshares.specs.Firm.{free-flow-mdq};
-ghost use Rattle.dayshares.specs.Answer.{Answered};
+ghost use Rattle.dayshares.specs.Answer.{SharesAnswered};
 
 // The levels of a day's five rounds; 0 for a round not held.
 pub struct Levels {
@@ -55,7 +55,7 @@ pub fn share_day(
     auction: &mut [u32],
     lower_tier: &mut [u32],
 ) -> Day
-    ensures { λ r. ⌜ Answered
+    ensures { λ r. ⌜ SharesAnswered
         (record {
           free-flow = «free_flow» .0;
           compressor = compressor .0;

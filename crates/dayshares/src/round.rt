@@ -6,8 +6,8 @@ use rounds::Round;
 use units::Gigajoules;
 use units::MOST_ROWS;
 ghost use lib.ListN.{length};
-ghost use Rattle.rounds.specs.Rows.{Ready};
-ghost use Rattle.dayshares.specs.Leaves.{Held, NextReady, NextHeld};
+ghost use Rattle.rounds.specs.Private.{Ready};
+ghost use Rattle.dayshares.specs.Private.{Held, NextReady, NextHeld};
 
 // One round; its input is ready, so it is not refused.
 pub fn hold(capacity: u32, weights: &[u32], needs: &[u32], shares: &mut [u32]) -> Given

@@ -15,7 +15,7 @@ use Rattle.units.specs.declared.refusal.Check.{Check}
 use Rattle.units.specs.Bound.{most-gigajoules, most-rows}
 use Rattle.units.proofs.Checks.{both-accepted, kept, cleared, all-within}
 use Rattle.daytable.specs.Table.{Table, rows}
-use Rattle.daytable.specs.Acceptance.{lengths, figures, idle, first-idle, check}
+use Rattle.daytable.specs.Acceptance.{lengths-check, bounds-check, idle, first-idle, table-check}
 
 -- a row that is not idle and has a need has a weight
 not-idle : (mdq schedule : ℕ) → idle mdq schedule ≡ false → 0 < schedule → 0 < mdq
@@ -35,8 +35,8 @@ pub record Long (T : Table) : Type 0 where
   pub auction-schedule : rows T ≡ length (T .auction-schedule)
   pub lower-tier-schedule : rows T ≡ length (T .lower-tier-schedule)
 
-pub long : (T : Table) → lengths T ≡ Check.Accepted → Long T
-unfolding lengths
+pub long : (T : Table) → lengths-check T ≡ Check.Accepted → Long T
+unfolding lengths-check
 long T e =
     let a = both-accepted _ _ e in
     let b = both-accepted _ _ (a .0) in
@@ -60,8 +60,8 @@ pub record Bounded (T : Table) : Type 0 where
   pub auction-schedule : (i : ℕ) → i < length (T .auction-schedule) → col (T .auction-schedule) i ≤ most-gigajoules
   pub lower-tier-schedule : (i : ℕ) → i < length (T .lower-tier-schedule) → col (T .lower-tier-schedule) i ≤ most-gigajoules
 
-pub bounded : (T : Table) → figures T ≡ Check.Accepted → Bounded T
-unfolding figures
+pub bounded : (T : Table) → bounds-check T ≡ Check.Accepted → Bounded T
+unfolding bounds-check
 bounded T e =
     let a = both-accepted _ _ e in
     let b = both-accepted _ _ (a .0) in
@@ -93,8 +93,8 @@ pub record Accepting (T : Table) (firm-room auction-room lower-tier-room : ℕ) 
   pub lower-tier-fits : rows T ≤ lower-tier-room
 
 pub accepting : (T : Table) (firm-room auction-room lower-tier-room : ℕ)
-    → check T firm-room auction-room lower-tier-room ≡ Check.Accepted → Accepting T firm-room auction-room lower-tier-room
-unfolding check
+    → table-check T firm-room auction-room lower-tier-room ≡ Check.Accepted → Accepting T firm-room auction-room lower-tier-room
+unfolding table-check
 accepting T firm-room auction-room lower-tier-room e =
     let lower-tier-lent = both-accepted _ _ e in
     let auction-lent = both-accepted _ _ (lower-tier-lent .0) in

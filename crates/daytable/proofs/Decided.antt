@@ -8,15 +8,15 @@ use Rattle.units.proofs.Checks.{both-accepted}
 use Rattle.units.proofs.Places.{PlacedTo, nowhere, _then-if_, plainly, at-one-of, counted, counted-list}
 use Rattle.units.proofs.Verdicts.{AllNumbered, none, _and_, kept-by, cleared-by, checked}
 use Rattle.daytable.specs.Table.{Table}
-use Rattle.daytable.specs.Acceptance.{lengths, figures, check}
+use Rattle.daytable.specs.Acceptance.{lengths-check, bounds-check, table-check}
 use Rattle.daytable.proofs.Accepting.{Long, long, bounded}
 
-lengths-numbered : (T : Table) → AllNumbered (lengths T)
-unfolding lengths
+lengths-numbered : (T : Table) → AllNumbered (lengths-check T)
+unfolding lengths-check
 lengths-numbered T = none and kept-by _ 9 tt tt and kept-by _ 9 tt tt and kept-by _ 9 tt tt and kept-by _ 9 tt tt
 
-figures-numbered : (T : Table) → AllNumbered (figures T)
-unfolding figures
+figures-numbered : (T : Table) → AllNumbered (bounds-check T)
+unfolding bounds-check
 figures-numbered T =
     none
     and kept-by _ 3 tt tt
@@ -29,8 +29,8 @@ figures-numbered T =
     and cleared-by _ _ 3 tt tt
 
 pub check-numbered : (T : Table) (firm-room auction-room lower-tier-room : ℕ)
-    → AllNumbered (check T firm-room auction-room lower-tier-room)
-unfolding check
+    → AllNumbered (table-check T firm-room auction-room lower-tier-room)
+unfolding table-check
 check-numbered T firm-room auction-room lower-tier-room =
     lengths-numbered T
     and figures-numbered T
@@ -41,17 +41,17 @@ check-numbered T firm-room auction-room lower-tier-room =
     and kept-by _ 7 tt tt
 
 pub table-decided : (T : Table) (firm-room auction-room lower-tier-room : ℕ) {found : Check}
-    → found ≡ check T firm-room auction-room lower-tier-room
-    → Decided (check T firm-room auction-room lower-tier-room) tt tt (of-check found)
+    → found ≡ table-check T firm-room auction-room lower-tier-room
+    → Decided (table-check T firm-room auction-room lower-tier-room) tt tt (of-check found)
 table-decided T firm-room auction-room lower-tier-room = checked (check-numbered T firm-room auction-room lower-tier-room)
 
 -- ---- a row is looked at after the lengths and the count
-lengths-placed : (T : Table) → PlacedTo 63 (lengths T)
-unfolding lengths
+lengths-placed : (T : Table) → PlacedTo 63 (lengths-check T)
+unfolding lengths-check
 lengths-placed T = nowhere then-if plainly _ 9 then-if plainly _ 9 then-if plainly _ 9 then-if plainly _ 9
 
-figures-placed : (T : Table) → Long T → PlacedTo 63 (figures T)
-unfolding figures
+figures-placed : (T : Table) → Long T → PlacedTo 63 (bounds-check T)
+unfolding bounds-check
 figures-placed T L =
     counted-list
     (counted-list
@@ -65,8 +65,8 @@ figures-placed T L =
     .placed
 
 pub table-placed : (T : Table) (firm-room auction-room lower-tier-room : ℕ)
-    → PlacedTo 63 (check T firm-room auction-room lower-tier-room)
-unfolding check
+    → PlacedTo 63 (table-check T firm-room auction-room lower-tier-room)
+unfolding table-check
 table-placed T firm-room auction-room lower-tier-room =
     lengths-placed T
     then-if (λ e. figures-placed T (long T e))

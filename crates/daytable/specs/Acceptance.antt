@@ -12,8 +12,8 @@ use Rattle.units.specs.Refusals.{_then_, keep, clear, within}
 use Rattle.daytable.specs.Table.{Table, rows}
 
 -- 9: the five lists are as long as one another
-unfoldable pub lengths : Table → Check
-lengths T =
+unfoldable pub lengths-check : Table → Check
+lengths-check T =
     Check.Accepted
     then keep (eqb (rows T) (length (T .auction-mdq))) 9
     then keep (eqb (rows T) (length (T .firm-schedule))) 9
@@ -21,8 +21,8 @@ lengths T =
     then keep (eqb (rows T) (length (T .lower-tier-schedule))) 9
 
 -- 3: the capacities, the count, then each list
-unfoldable pub figures : Table → Check
-figures T =
+unfoldable pub bounds-check : Table → Check
+bounds-check T =
     Check.Accepted
     then keep (leb (T .free-flow) most-gigajoules) 3
     then keep (leb (T .compressor) most-gigajoules) 3
@@ -41,10 +41,10 @@ abbrev pub first-idle : List ℕ → List ℕ → ℕ
 first-idle mdqs schedules = first (length mdqs) (λ i. idle (col mdqs i) (col schedules i))
 
 -- 4: firm rows, then auction rows; 7: the three lent lists
-unfoldable pub check : Table → ℕ → ℕ → ℕ → Check
-check T firm-room auction-room lower-tier-room =
-    lengths T
-    then figures T
+unfoldable pub table-check : Table → ℕ → ℕ → ℕ → Check
+table-check T firm-room auction-room lower-tier-room =
+    lengths-check T
+    then bounds-check T
     then clear (rows T) (first-idle (T .firm-mdq) (T .firm-schedule)) 4
     then clear (rows T) (first-idle (T .auction-mdq) (T .auction-schedule)) 4
     then keep (leb (rows T) firm-room) 7

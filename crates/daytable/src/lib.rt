@@ -3,9 +3,9 @@ use units::Check;
 use units::Gigajoules;
 use units::MOST_GIGAJOULES;
 use units::MOST_ROWS;
+use units::gigajoules_at;
 ghost use mathlib.Core.Path.{_≡_};
-ghost use Rattle.columns.specs.Column.{col};
-ghost use Rattle.daytable.specs.Acceptance.{figures, idle, first-idle, check};
+ghost use Rattle.daytable.specs.Acceptance.{bounds-check, idle, first-idle, table-check};
 
 // The first of 01's tests that a day's table fails, with room for so many shares of each class.
 pub fn examine_day(
@@ -20,7 +20,7 @@ pub fn examine_day(
     auction_room: usize,
     lower_tier_room: usize,
 ) -> Check
-    ensures { λ r. ⌜ r ≡ check
+    ensures { λ r. ⌜ r ≡ table-check
         (record {
           free-flow = «free_flow» .0;
           compressor = compressor .0;
@@ -65,7 +65,7 @@ fn examine_figures(
     auction_schedule: &[u32],
     lower_tier_schedule: &[u32],
 ) -> Check
-    ensures { λ r. ⌜ r ≡ figures
+    ensures { λ r. ⌜ r ≡ bounds-check
         (record {
           free-flow = «free_flow»;
           compressor = compressor;
@@ -93,7 +93,7 @@ fn idle_row(mdqs: &[u32], schedules: &[u32]) -> usize
 {
     let mut row = 0;
     while row < mdqs.len() {
-        if is_idle(mdqs[row], figure(schedules, row)) {
+        if is_idle(mdqs[row], gigajoules_at(schedules, row)) {
             return row;
         }
         row += 1;
@@ -108,14 +108,4 @@ fn is_idle(mdq: u32, schedule: u32) -> bool
         return 0 < schedule;
     }
     false
-}
-
-// The figure of a row, 0 past the list.
-fn figure(figures: &[u32], row: usize) -> u32
-    ensures { λ r. ⌜ r ≡ col (now (figures .entry)) row ⌝ }
-{
-    if figures.len() <= row {
-        return 0;
-    }
-    figures[row]
 }

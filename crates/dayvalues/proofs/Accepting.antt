@@ -15,7 +15,8 @@ use Rattle.dayformat.specs.declared.layout.Counts.{Counts}
 use Rattle.dayformat.specs.Format.{name, gigajoules, _of_, form}
 use Rattle.dayformat.proofs.Bodies.{among}
 use Rattle.dayvalues.specs.Row.{beyond, row-check}
-use Rattle.dayvalues.specs.Column.{check, Fillable}
+use Rattle.dayvalues.specs.Column.{column-check}
+use Rattle.dayvalues.specs.Private.{Fillable}
 use Rattle.dayvalues.proofs.Bounds.{gigajoules-most}
 use Rattle.dayvalues.proofs.Rows.{none-beyond}
 
@@ -28,8 +29,8 @@ row-accepted counts numbers tag row e =
     none-beyond counts (col numbers) tag row (ltb-true _ _ (kept _ _ (inside .1))) (cleared _ _ _ (clear .1))
 
 pub column-accepted : (counts : Counts) (numbers : List ℕ) (place : ℕ) (lent : List ℕ) → 1 ≤ place → place < 6
-    → check counts numbers place (length lent) ≡ Check.Accepted → Fillable counts (col numbers) place lent
-unfolding check
+    → column-check counts numbers place (length lent) ≡ Check.Accepted → Fillable counts (col numbers) place lent
+unfolding column-check
 column-accepted counts numbers place lent h l e =
     let room = both-accepted _ _ e in
     let clear = both-accepted _ _ (room .0) in

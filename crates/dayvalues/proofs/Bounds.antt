@@ -9,7 +9,7 @@ use Rattle.units.specs.Bound.{most-gigajoules}
 use Rattle.dayformat.specs.declared.form.Tag.{Tag}
 use Rattle.dayformat.specs.declared.layout.Counts.{Counts}
 use Rattle.dayformat.specs.Format.{gigajoules, body, column-in}
-use Rattle.dayrows.specs.Test.{within}
+use Rattle.dayrows.specs.Test.{in-bounds}
 use Rattle.dayrows.proofs.Within.{above-high, between, within-bounds}
 use Rattle.dayvalues.specs.Row.{number-at, beyond}
 
@@ -29,6 +29,6 @@ module _ (counts : Counts) (numbers : ℕ → ℕ) (tag : Tag) (row place : ℕ)
   unfolding beyond
   beyond-gigajoules e = rw e (by (ltb most-gigajoules figure) refl)
     where
-      by : (b : Bool) → ltb most-gigajoules figure ≡ b → not (within gigajoules figure) ≡ b
+      by : (b : Bool) → ltb most-gigajoules figure ≡ b → not (in-bounds gigajoules figure) ≡ b
       by true h = above-high gigajoules figure (omega arith) (ltb-true _ _ h)
       by false h = between gigajoules figure (omega arith) (ltb-false _ _ h)

@@ -5,9 +5,9 @@ use Prim.Native.Nat.{ℕ}
 use Rattle.units.proofs.Determined.{determined}
 use Rattle.dayformat.specs.declared.layout.Counts.{Counts}
 use Rattle.dayvalues.specs.declared.column.ShipperColumn.{ShipperColumn}
-use Rattle.dayvalues.specs.declared.column.Listed.{Listed}
-use Rattle.dayvalues.specs.Column.{Answered}
+use Rattle.dayvalues.specs.declared.column.ColumnRows.{ColumnRows}
+use Rattle.dayvalues.specs.Column.{ColumnAnswered}
 
-pub column-determined : {counts : Counts} {numbers : List ℕ} {which : ShipperColumn} {lent : List ℕ} {r₁ r₂ : Listed} {l₁ l₂ : List ℕ}
-    → Answered counts numbers which lent r₁ l₁ → Answered counts numbers which lent r₂ l₂ → (r₁ ≡ r₂) × (l₁ ≡ l₂)
+pub column-determined : {counts : Counts} {numbers : List ℕ} {which : ShipperColumn} {lent : List ℕ} {r₁ r₂ : ColumnRows} {l₁ l₂ : List ℕ}
+    → ColumnAnswered counts numbers which lent r₁ l₁ → ColumnAnswered counts numbers which lent r₂ l₂ → (r₁ ≡ r₂) × (l₁ ≡ l₂)
 column-determined a b = (determined (a .answers) (b .answers), determined (a .leaves) (b .leaves))

@@ -13,7 +13,7 @@ use Rattle.dayformat.specs.declared.form.Tag.the-variants.{Shipper}
 use Rattle.dayformat.specs.declared.layout.Counts.{Counts}
 use Rattle.dayformat.specs.Layout.{count, numbers-in}
 use Rattle.dayformat.specs.Acceptance.{counts-check}
-use Rattle.dayvalues.specs.Column.{first-beyond, check}
+use Rattle.dayvalues.specs.Column.{first-beyond, column-check}
 
 -- a refusal stays, whatever comes next
 refused-twice : (x : Refusal) (a b : Check) → Refused x ≡ (Refused x then a then b)
@@ -31,10 +31,10 @@ module _ (counts : Counts) (numbers : List ℕ) (place room : ℕ) {first : Chec
       then clear (count counts Shipper) (first-beyond counts (col numbers) place) 3
       then keep (leb (count counts Shipper) room) 7
 
-  pub counts-refuse : {x : Refusal} → first ≡ Refused x → Refused x ≡ check counts numbers place room
-  unfolding check
+  pub counts-refuse : {x : Refusal} → first ≡ Refused x → Refused x ≡ column-check counts numbers place room
+  unfolding column-check
   counts-refuse {x} e = refused-twice x _ _ ∙ ap with-rows (sym e ∙ is)
 
-  pub rows-decide : {rows : Check} → first ≡ Accepted → rows ≡ with-rows Accepted → rows ≡ check counts numbers place room
-  unfolding check
+  pub rows-decide : {rows : Check} → first ≡ Accepted → rows ≡ with-rows Accepted → rows ≡ column-check counts numbers place room
+  unfolding column-check
   rows-decide e r = r ∙ ap with-rows (sym e ∙ is)

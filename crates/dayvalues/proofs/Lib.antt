@@ -5,3 +5,4 @@ pub mod Answers
 pub mod Decided
 pub mod Determined
 pub mod Examining
+pub mod Sounds

@@ -1,14 +1,13 @@
 -- A column of gigajoules of the shipper table: what `shipper_column` answers, and what it leaves in the lent list.
 use mathlib.Core.Path.{_≡_}
 use mathlib.Core.List.{List}
-use Prim.Native.Nat.{ℕ, _≤_, _<_}
+use Prim.Native.Nat.{ℕ}
 use lib.Dec.{leb, eqb}
 use lib.ListN.{length}
 use lib.Seq.{sets}
 use Rattle.columns.specs.Column.{col, listed}
 use Rattle.columns.specs.First.{first}
 use Rattle.units.specs.declared.refusal.Check.{Check}
-use Rattle.units.specs.Bound.{most-gigajoules}
 use Rattle.units.specs.Refusals.{_then_, keep, clear, accepted-or}
 use Rattle.units.specs.Verdict.{Verdict, accepting, refusing}
 use Rattle.dayformat.specs.declared.form.Tag.the-variants.{Shipper}
@@ -17,7 +16,7 @@ use Rattle.dayformat.specs.Layout.{count, numbers-in}
 use Rattle.dayformat.specs.Acceptance.{counts-check}
 use Rattle.dayvalues.specs.declared.column.ShipperColumn.{ShipperColumn}
 use Rattle.dayvalues.specs.declared.column.ShipperColumn.the-variants.{FirmMdq, AuctionMdq, FirmSchedule, AuctionSchedule, LowerTierSchedule}
-use Rattle.dayvalues.specs.declared.column.Listed.{Listed}
+use Rattle.dayvalues.specs.declared.column.ColumnRows.{ColumnRows}
 use Rattle.dayvalues.specs.Row.{number-at, beyond}
 
 -- tag 2: shipper, firm MDQ, auction MDQ, firm, auction and lower tier schedules
@@ -37,36 +36,32 @@ abbrev pub first-beyond : Counts → (ℕ → ℕ) → ℕ → ℕ
 first-beyond counts numbers place = first (count counts Shipper) (λ row. beyond counts numbers Shipper row place)
 
 -- refused: 9 not as many numbers as the counts say; 3 a count, a number; 7 the lent list
-unfoldable pub check : Counts → List ℕ → ℕ → ℕ → Check
-check counts numbers place room =
+unfoldable pub column-check : Counts → List ℕ → ℕ → ℕ → Check
+column-check counts numbers place room =
     Check.Accepted
     then keep (eqb (length numbers) (numbers-in counts)) 9
     then counts-check counts
     then clear (count counts Shipper) (first-beyond counts (col numbers) place) 3
     then keep (leb (count counts Shipper) room) 7
 
-abbrev pub answer : Check → ℕ → Listed
-answer Check.Accepted rows = Listed.Rows rows
-answer (Check.Refused x) rows = Listed.Refused x
+abbrev pub column-answer : Check → ℕ → ColumnRows
+column-answer Check.Accepted rows = ColumnRows.Rows rows
+column-answer (Check.Refused x) rows = ColumnRows.Refused x
 
 -- 01's number, place and figure of each case
-abbrev pub verdict : Listed → Verdict ℕ
-verdict (Listed.Rows many) = accepting many
-verdict (Listed.Refused x) = refusing x 0
+abbrev pub column-verdict : ColumnRows → Verdict ℕ
+column-verdict (ColumnRows.Rows many) = accepting many
+column-verdict (ColumnRows.Refused x) = refusing x 0
 
 -- the lent list with a column at its front
 abbrev pub with-column : Counts → (ℕ → ℕ) → ℕ → List ℕ → List ℕ
 with-column counts numbers place lent = sets lent 0 (listed (count counts Shipper) (column counts numbers place))
 
 -- the statement of `shipper_column`: its answer, and the lent list before and after
-pub record Answered (counts : Counts) (numbers : List ℕ) (which : ShipperColumn) (lent : List ℕ) (listed : Listed)
+pub record ColumnAnswered (counts : Counts) (numbers : List ℕ) (which : ShipperColumn) (lent : List ℕ) (rows : ColumnRows)
     (after : List ℕ) : Type 0 where
-  pub answers : listed ≡ answer (check counts numbers (place-of which) (length lent)) (count counts Shipper)
+  pub answers : rows ≡ column-answer (column-check counts numbers (place-of which) (length lent)) (count counts Shipper)
   pub leaves :
       after
-      ≡ accepted-or (check counts numbers (place-of which) (length lent)) (with-column counts (col numbers) (place-of which) lent) lent
-
--- what the loop over a column asks: every number is within its bound, and there is room for all
-pub record Fillable (counts : Counts) (numbers : ℕ → ℕ) (place : ℕ) (lent : List ℕ) : Type 0 where
-  pub bounded : (row : ℕ) → row < count counts Shipper → column counts numbers place row ≤ most-gigajoules
-  pub fits : count counts Shipper ≤ length lent
+      ≡ accepted-or (column-check counts numbers (place-of which) (length lent))
+      (with-column counts (col numbers) (place-of which) lent) lent

@@ -27,6 +27,6 @@ abbrev pub point-answer : Counts → List ℕ → ℕ → PointRow
 point-answer counts numbers row = point-where (row-check counts numbers Tag.Point row) (point-of counts (col numbers) row)
 
 -- 01's number, place and figures of each case
-abbrev pub verdict : PointRow → Verdict Point
-verdict (PointRow.Point point) = accepting point
-verdict (PointRow.Refused x) = refusing x (record { side = 0; point = 0; capacity = record { 0 = 0 } })
+abbrev pub point-verdict : PointRow → Verdict Point
+point-verdict (PointRow.Point point) = accepting point
+point-verdict (PointRow.Refused x) = refusing x (record { side = 0; point = 0; capacity = record { 0 = 0 } })

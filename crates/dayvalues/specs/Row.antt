@@ -12,7 +12,7 @@ use Rattle.dayformat.specs.declared.layout.Counts.{Counts}
 use Rattle.dayformat.specs.Format.{body, column-in}
 use Rattle.dayformat.specs.Layout.{count, row-start, numbers-in}
 use Rattle.dayformat.specs.Acceptance.{counts-check}
-use Rattle.dayrows.specs.Test.{within, bounded}
+use Rattle.dayrows.specs.Test.{in-bounds, bounded}
 
 -- the number at a place of a row
 abbrev pub number-at : Counts → (ℕ → ℕ) → Tag → ℕ → ℕ → ℕ
@@ -20,7 +20,7 @@ number-at counts numbers tag row place = numbers (row-start counts tag row + pla
 
 -- it is beyond its bounds
 unfoldable pub beyond : Counts → (ℕ → ℕ) → Tag → ℕ → ℕ → Bool
-beyond counts numbers tag row place = not (within (column-in (body tag) place) (number-at counts numbers tag row place))
+beyond counts numbers tag row place = not (in-bounds (column-in (body tag) place) (number-at counts numbers tag row place))
 
 -- the row, where one of its numbers is; else the number of rows
 unfoldable pub beyond-row : Counts → (ℕ → ℕ) → Tag → ℕ → ℕ

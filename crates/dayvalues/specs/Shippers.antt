@@ -21,6 +21,6 @@ abbrev pub shipper-answer : Counts → List ℕ → ℕ → ShipperRow
 shipper-answer counts numbers row = shipper-where (row-check counts numbers Shipper row) (shipper-of counts (col numbers) row)
 
 -- 01's number, place and figure of each case
-abbrev pub verdict : ShipperRow → Verdict ℕ
-verdict (ShipperRow.Shipper shipper) = accepting shipper
-verdict (ShipperRow.Refused x) = refusing x 0
+abbrev pub shipper-verdict : ShipperRow → Verdict ℕ
+shipper-verdict (ShipperRow.Shipper shipper) = accepting shipper
+shipper-verdict (ShipperRow.Refused x) = refusing x 0

@@ -9,7 +9,8 @@ use units::Refusal;
 ghost use mathlib.Core.Path.{_≡_};
 ghost use Prim.Native.Nat.{_≤_, _<_};
 ghost use Rattle.columns.specs.Column.{col};
-ghost use Rattle.dayvalues.specs.Column.{place-of, first-beyond, check, with-column, Answered, Fillable};
+ghost use Rattle.dayvalues.specs.Column.{place-of, first-beyond, column-check, with-column, ColumnAnswered};
+ghost use Rattle.dayvalues.specs.Private.{Fillable};
 
 // In tag 2's order.
 pub enum ShipperColumn {
@@ -21,7 +22,7 @@ pub enum ShipperColumn {
 }
 
 // How many rows a column has, or why it is refused.
-pub enum Listed {
+pub enum ColumnRows {
     Rows(usize),
     Refused(Refusal),
 }
@@ -56,7 +57,7 @@ fn first_beyond(counts: Counts, numbers: &[usize], place: u32) -> u32
 
 // The first test that a column fails, with room for so many rows. The rows are looked at where there are few.
 fn examine_column(counts: Counts, numbers: &[usize], place: u32, room: usize) -> Check
-    ensures { λ r. ⌜ r ≡ check counts (now (numbers .entry)) place room ⌝ }
+    ensures { λ r. ⌜ r ≡ column-check counts (now (numbers .entry)) place room ⌝ }
 {
     let rows = counts.shippers as usize;
     let counted = Check::Accepted
@@ -72,7 +73,7 @@ fn examine_column(counts: Counts, numbers: &[usize], place: u32, room: usize) ->
 
 // The first test that a column fails, with room for so many rows.
 pub fn check_column(counts: Counts, numbers: &[usize], which: ShipperColumn, room: usize) -> Check
-    ensures { λ r. ⌜ r ≡ check counts (now (numbers .entry)) (place-of which) room ⌝ }
+    ensures { λ r. ⌜ r ≡ column-check counts (now (numbers .entry)) (place-of which) room ⌝ }
 {
     examine_column(counts, numbers, place_of(which), room)
 }
@@ -94,16 +95,16 @@ pub fn shipper_column(
     numbers: &[usize],
     which: ShipperColumn,
     out: &mut [u32],
-) -> Listed
-    ensures { λ r. ⌜ Answered counts (now (numbers .entry)) which (now (out .entry)) r (now (out .exit)) ⌝ }
+) -> ColumnRows
+    ensures { λ r. ⌜ ColumnAnswered counts (now (numbers .entry)) which (now (out .entry)) r (now (out .exit)) ⌝ }
 {
     let place = place_of(which);
     let found = examine_column(counts, numbers, place, out.len());
     match found {
-        Check::Refused(refusal) => Listed::Refused(refusal),
+        Check::Refused(refusal) => ColumnRows::Refused(refusal),
         Check::Accepted => {
             fill_column(counts, numbers, place, out);
-            Listed::Rows(counts.shippers as usize)
+            ColumnRows::Rows(counts.shippers as usize)
         }
     }
 }

@@ -4,7 +4,7 @@ mod points;
 mod row;
 mod shippers;
 
-pub use column::Listed;
+pub use column::ColumnRows;
 pub use column::ShipperColumn;
 pub use column::check_column;
 pub use column::shipper_column;

@@ -1,11 +1,10 @@
 -- What acceptance says of a day and its numbers, and that a day of which all this holds is accepted.
 use mathlib.Core.Path.{_≡_, refl, sym}
-use mathlib.Core.Bool.{true, not}
+use mathlib.Core.Bool.{not}
 use mathlib.Core.List.{List}
-use Prim.Native.Nat.{ℕ, _≤_, _<_}
+use Prim.Native.Nat.{ℕ, _≤_}
 use native.Mathlib.Nat.{le-of-eq}
 use borrow.Author.Tests.{leb-true, eqb-true, not-false, le-leb, eq-eqb}
-use lib.ListN.{length}
 use Rattle.columns.specs.Column.{col}
 use Rattle.columns.proofs.Firsts.{first-passed, first-none}
 use Rattle.units.specs.declared.refusal.Check.{Check}
@@ -16,26 +15,15 @@ use Rattle.dayformat.specs.declared.day.Day.{Day}
 use Rattle.dayformat.specs.declared.form.Tag.{Tag}
 use Rattle.dayformat.specs.declared.form.Tag.the-variants.{Head, Shipper, Point, Entry, Meter}
 use Rattle.dayformat.specs.declared.layout.Counts.{Counts}
-use Rattle.dayformat.specs.Layout.{count, numbers-in}
-use Rattle.dayformat.proofs.Accepting.{Few, counts-accepted, counts-accept}
-use Rattle.dayformat.proofs.Small.{Table}
+use Rattle.dayformat.specs.Layout.{count}
+use Rattle.dayformat.proofs.Accepting.{counts-accepted, counts-accept}
+use Rattle.dayformat.specs.Private.{HasTable, Few}
 use Rattle.dayrows.specs.declared.Source.the-variants.{File}
 use Rattle.dayrows.specs.declared.Test.{Test}
 use Rattle.dayrows.specs.declared.Test.the-variants.{Bounds, Key, Mdq}
 use Rattle.dayrows.specs.Test.{passes, first-failing}
-use Rattle.daywriter.specs.Acceptance.{singles, tables, rows-check, sound}
-
--- a table's rows all pass a test
-abbrev pub Passed : Test → Counts → (ℕ → ℕ) → Tag → Type 0
-Passed test counts numbers tag = (row : ℕ) → row < count counts tag → passes test File counts numbers tag row ≡ true
-
--- 9: as many numbers as the counts say; 3, 5, 4: the capacities and the counts, then every row of every table
-pub record Sound (day : Day) (numbers : List ℕ) : Type 0 where
-  pub long : length numbers ≡ numbers-in (day .counts)
-  pub free-flow : day .head .«free_flow» .0 ≤ most-gigajoules
-  pub compressor : day .head .compressor .0 ≤ most-gigajoules
-  pub few : Few (day .counts)
-  pub passes : (tag : Tag) → Table tag → (test : Test) → Passed test (day .counts) (col numbers) tag
+use Rattle.dayrows.specs.Private.{Passed, Sound}
+use Rattle.daywriter.specs.Acceptance.{singles-check, tables-check, rows-check, sound}
 
 -- ---- one test over the tables
 module _ (test : Test) (number : ℕ) (counts : Counts) (numbers : ℕ → ℕ) where
@@ -52,8 +40,8 @@ module _ (test : Test) (number : ℕ) (counts : Counts) (numbers : ℕ → ℕ) 
       (le-of-eq
       (sym (first-none (λ row. not (passes test File counts numbers tag row)) (count counts tag) (λ row l. rw (pass row l)))))
 
-  tables-passed : tables test number counts numbers ≡ Check.Accepted → (tag : Tag) → Table tag → Passed test counts numbers tag
-  unfolding tables
+  tables-passed : tables-check test number counts numbers ≡ Check.Accepted → (tag : Tag) → HasTable tag → Passed test counts numbers tag
+  unfolding tables-check
   tables-passed e =
       let meter = both-accepted _ _ e in
       let entry = both-accepted _ _ (meter .0) in
@@ -62,15 +50,15 @@ module _ (test : Test) (number : ℕ) (counts : Counts) (numbers : ℕ → ℕ) 
       by (shipper .1) (point .1) (entry .1) (meter .1)
     where
       by : clear-at Shipper ≡ Check.Accepted → clear-at Point ≡ Check.Accepted → clear-at Entry ≡ Check.Accepted
-          → clear-at Meter ≡ Check.Accepted → (tag : Tag) → Table tag → Passed test counts numbers tag
+          → clear-at Meter ≡ Check.Accepted → (tag : Tag) → HasTable tag → Passed test counts numbers tag
       by s p e m Head none = absurd none
       by s p e m Shipper T = table-passed Shipper s
       by s p e m Point T = table-passed Point p
       by s p e m Entry T = table-passed Entry e
       by s p e m Meter T = table-passed Meter m
 
-  tables-clear : ((tag : Tag) → Table tag → Passed test counts numbers tag) → tables test number counts numbers ≡ Check.Accepted
-  unfolding tables
+  tables-clear : ((tag : Tag) → HasTable tag → Passed test counts numbers tag) → tables-check test number counts numbers ≡ Check.Accepted
+  unfolding tables-check
   tables-clear pass =
       accepts-both
       (accepts-both
@@ -80,8 +68,8 @@ module _ (test : Test) (number : ℕ) (counts : Counts) (numbers : ℕ → ℕ) 
 
 -- ---- the head and the counts
 singles-accept : (day : Day) → day .head .«free_flow» .0 ≤ most-gigajoules → day .head .compressor .0 ≤ most-gigajoules
-    → Few (day .counts) → singles day ≡ Check.Accepted
-unfolding singles
+    → Few (day .counts) → singles-check day ≡ Check.Accepted
+unfolding singles-check
 singles-accept day free-flow compressor few =
     accepts-both
     (accepts-both (accepts-both refl (accepts-kept 3 (le-leb _ _ free-flow))) (accepts-kept 3 (le-leb _ _ compressor)))
@@ -90,7 +78,7 @@ singles-accept day free-flow compressor few =
 -- ---- the whole
 module _ (day : Day) (numbers : List ℕ) where
   pub accepting : sound day numbers ≡ Check.Accepted → Sound day numbers
-  unfolding sound singles rows-check
+  unfolding sound singles-check rows-check
   accepting e =
       let figures-rows = both-accepted _ _ e in
       let mdqs = both-accepted _ _ (figures-rows .1) in
@@ -109,9 +97,10 @@ module _ (day : Day) (numbers : List ℕ) where
         passes = by (bounds .1) (keys .1) (mdqs .1);
       }
     where
-      by : tables Bounds 3 (day .counts) (col numbers) ≡ Check.Accepted → tables Key 5 (day .counts) (col numbers) ≡ Check.Accepted
-          → tables Mdq 4 (day .counts) (col numbers) ≡ Check.Accepted
-          → (tag : Tag) → Table tag → (test : Test) → Passed test (day .counts) (col numbers) tag
+      by : tables-check Bounds 3 (day .counts) (col numbers) ≡ Check.Accepted
+          → tables-check Key 5 (day .counts) (col numbers) ≡ Check.Accepted
+          → tables-check Mdq 4 (day .counts) (col numbers) ≡ Check.Accepted
+          → (tag : Tag) → HasTable tag → (test : Test) → Passed test (day .counts) (col numbers) tag
       by b k m tag T Bounds = tables-passed Bounds 3 (day .counts) (col numbers) b tag T
       by b k m tag T Key = tables-passed Key 5 (day .counts) (col numbers) k tag T
       by b k m tag T Mdq = tables-passed Mdq 4 (day .counts) (col numbers) m tag T
@@ -124,5 +113,5 @@ module _ (day : Day) (numbers : List ℕ) where
       (singles-accept day (S .free-flow) (S .compressor) (S .few)))
       (accepts-both (accepts-both (accepts-both refl (clear-by Bounds 3)) (clear-by Key 5)) (clear-by Mdq 4))
     where
-      clear-by : (test : Test) (number : ℕ) → tables test number (day .counts) (col numbers) ≡ Check.Accepted
+      clear-by : (test : Test) (number : ℕ) → tables-check test number (day .counts) (col numbers) ≡ Check.Accepted
       clear-by test number = tables-clear test number (day .counts) (col numbers) (λ tag T. S .passes tag T test)

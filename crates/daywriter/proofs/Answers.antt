@@ -12,20 +12,20 @@ use Rattle.units.specs.Refusals.{_then_, keep}
 use Rattle.dayformat.specs.declared.day.Day.{Day}
 use Rattle.dayformat.specs.Layout.{file-size}
 use Rattle.daywriter.specs.declared.Written.the-variants.{Refused, Bytes}
-use Rattle.daywriter.specs.Written.{file-of}
-use Rattle.daywriter.specs.Acceptance.{sound, check}
-use Rattle.daywriter.specs.Answer.{Answered}
+use Rattle.dayformat.specs.DayBytes.{file-of}
+use Rattle.daywriter.specs.Acceptance.{sound, written-check}
+use Rattle.daywriter.specs.Answer.{WrittenAnswered}
 
 -- the tests of the day, then that of the room
 module _ (day : Day) (numbers lent : List ℕ) {size : ℕ} {examined found : Check} (sized : size ≡ file-size (day .counts))
     (tested : examined ≡ sound day numbers) (kept : found ≡ (examined then keep (leb size (length lent)) 7)) where
-  checked : check day numbers (length lent) ≡ found
-  unfolding check
+  checked : written-check day numbers (length lent) ≡ found
+  unfolding written-check
   checked = rw (kept, tested, sized)
 
-  pub refuses : (refusal : Refusal) → found ≡ Check.Refused refusal → Answered day numbers lent lent (Refused refusal)
+  pub refuses : (refusal : Refusal) → found ≡ Check.Refused refusal → WrittenAnswered day numbers lent lent (Refused refusal)
   refuses refusal e = record { answers = rw (checked, e); leaves = rw (checked, e) }
 
   pub writes : {after : List ℕ} → found ≡ Check.Accepted → after ≡ sets lent 0 (file-of day (col numbers))
-      → Answered day numbers lent after (Bytes size)
+      → WrittenAnswered day numbers lent after (Bytes size)
   writes e laid = record { answers = rw (checked, e, sized); leaves = rw (checked, e, laid) }

@@ -5,8 +5,8 @@ use Prim.Native.Nat.{ℕ}
 use Rattle.units.proofs.Determined.{determined}
 use Rattle.dayformat.specs.declared.day.Day.{Day}
 use Rattle.daywriter.specs.declared.Written.{Written}
-use Rattle.daywriter.specs.Answer.{Answered}
+use Rattle.daywriter.specs.Answer.{WrittenAnswered}
 
 pub written-determined : {day : Day} {numbers lent : List ℕ} {r₁ r₂ : Written} {l₁ l₂ : List ℕ}
-    → Answered day numbers lent l₁ r₁ → Answered day numbers lent l₂ r₂ → (r₁ ≡ r₂) × (l₁ ≡ l₂)
+    → WrittenAnswered day numbers lent l₁ r₁ → WrittenAnswered day numbers lent l₂ r₂ → (r₁ ≡ r₂) × (l₁ ≡ l₂)
 written-determined a b = (determined (a .answers) (b .answers), determined (a .leaves) (b .leaves))

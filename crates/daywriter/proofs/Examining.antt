@@ -11,7 +11,7 @@ use Rattle.units.specs.declared.refusal.Check.the-variants.{Accepted, Refused}
 use Rattle.units.specs.Refusals.{_then_, keep}
 use Rattle.dayformat.specs.declared.day.Day.{Day}
 use Rattle.dayformat.specs.Layout.{numbers-in}
-use Rattle.daywriter.specs.Acceptance.{singles, rows-check, sound}
+use Rattle.daywriter.specs.Acceptance.{singles-check, rows-check, sound}
 
 refused-then : (x : Refusal) (next : Check) → Refused x ≡ (Refused x then next)
 unfolding _then_
@@ -22,7 +22,7 @@ unfolding _then_
 accepted-then next = refl
 
 module _ (day : Day) (numbers : List ℕ) {first : Check}
-    (is : first ≡ (Check.Accepted then keep (eqb (length numbers) (numbers-in (day .counts))) 9 then singles day)) where
+    (is : first ≡ (Check.Accepted then keep (eqb (length numbers) (numbers-in (day .counts))) 9 then singles-check day)) where
   pub singles-refuse : {x : Refusal} → first ≡ Refused x → Refused x ≡ sound day numbers
   unfolding sound
   singles-refuse {x} e = refused-then x (rows-check (day .counts) (col numbers))

@@ -7,7 +7,7 @@ use native.Mathlib.Numerals.{add-one}
 use native.Mathlib.Omega.{arith}
 use lib.ListN.{length}
 use lib.Seq.{sets, length-sets}
-use Rattle.columns.specs.Column.{col, listed}
+use Rattle.columns.specs.Column.{col, listed, joined}
 use Rattle.text.specs.Text.{Laid}
 use Rattle.text.proofs.Laying.{laid-both}
 use Rattle.bigendian.specs.Number.{bytes}
@@ -18,11 +18,10 @@ use Rattle.dayformat.specs.declared.form.Form.{Form}
 use Rattle.dayformat.specs.declared.form.Tag.{Tag}
 use Rattle.dayformat.specs.declared.form.Tag.the-variants.{Head, Shipper, Point, Entry, Meter}
 use Rattle.dayformat.specs.declared.layout.Counts.{Counts}
-use Rattle.dayformat.specs.Format.{widths, field-size, form}
+use Rattle.dayformat.specs.Format.{widths, field-size, form, field}
 use Rattle.dayformat.specs.Layout.{count, row-start, run-size}
-use Rattle.dayformat.specs.Table.{joined, field}
-use Rattle.daywriter.specs.Written.{row-from, head-row, fields, file-of}
-use Rattle.daywriter.proofs.Sizes.{head-size, length-field, length-row-field, length-fields}
+use Rattle.dayformat.specs.DayBytes.{row-from, head-row, fields, file-of}
+use Rattle.dayformat.proofs.Sizes.{head-size, length-field, length-row-field, length-fields}
 
 -- a tag's byte spells its number
 tag-bytes : (tag : Tag) → bytes 1 (form tag .byte) ≡ form tag .byte ∷ []

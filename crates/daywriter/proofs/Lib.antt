@@ -1,5 +1,4 @@
 pub mod RowLaying
-pub mod Sizes
 pub mod FieldLaying
 pub mod Answers
 pub mod Accepting

@@ -18,16 +18,16 @@ use Rattle.dayrows.specs.declared.Test.the-variants as Test
 use Rattle.dayrows.specs.Test.{first-failing}
 
 -- 3: the head, then the counts
-unfoldable pub singles : Day → Check
-singles day =
+unfoldable pub singles-check : Day → Check
+singles-check day =
     Check.Accepted
     then keep (leb (day .head .«free_flow» .0) most-gigajoules) 3
     then keep (leb (day .head .compressor .0) most-gigajoules) 3
     then counts-check (day .counts)
 
 -- one test over the tables in file order: refused by its number at the lowest row
-unfoldable pub tables : Test → ℕ → Counts → (ℕ → ℕ) → Check
-tables test number counts numbers =
+unfoldable pub tables-check : Test → ℕ → Counts → (ℕ → ℕ) → Check
+tables-check test number counts numbers =
     Check.Accepted
     then clear (count counts Tag.Shipper) (first-failing test counts numbers Tag.Shipper) number
     then clear (count counts Tag.Point) (first-failing test counts numbers Tag.Point) number
@@ -38,17 +38,17 @@ tables test number counts numbers =
 unfoldable pub rows-check : Counts → (ℕ → ℕ) → Check
 rows-check counts numbers =
     Check.Accepted
-    then tables Test.Bounds 3 counts numbers
-    then tables Test.Key 5 counts numbers
-    then tables Test.Mdq 4 counts numbers
+    then tables-check Test.Bounds 3 counts numbers
+    then tables-check Test.Key 5 counts numbers
+    then tables-check Test.Mdq 4 counts numbers
 
 -- what the writer accepts, whatever room it is lent
 unfoldable pub sound : Day → List ℕ → Check
 sound day numbers =
     Check.Accepted
     then keep (eqb (length numbers) (numbers-in (day .counts))) 9
-    then singles day
+    then singles-check day
     then rows-check (day .counts) (col numbers)
 
-unfoldable pub check : Day → List ℕ → ℕ → Check
-check day numbers room = sound day numbers then keep (leb (file-size (day .counts)) room) 7
+unfoldable pub written-check : Day → List ℕ → ℕ → Check
+written-check day numbers room = sound day numbers then keep (leb (file-size (day .counts)) room) 7

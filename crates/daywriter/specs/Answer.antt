@@ -13,19 +13,19 @@ use Rattle.dayformat.specs.declared.day.Day.{Day}
 use Rattle.dayformat.specs.Layout.{file-size}
 use Rattle.daywriter.specs.declared.Written.{Written}
 use Rattle.daywriter.specs.declared.Written.the-variants.{Refused, Bytes}
-use Rattle.daywriter.specs.Written.{file-of}
-use Rattle.daywriter.specs.Acceptance.{check}
+use Rattle.dayformat.specs.DayBytes.{file-of}
+use Rattle.daywriter.specs.Acceptance.{written-check}
 
-abbrev pub answer : Check → ℕ → Written
-answer (Check.Refused refusal) many = Refused refusal
-answer Check.Accepted many = Bytes many
+abbrev pub written-answer : Check → ℕ → Written
+written-answer (Check.Refused refusal) many = Refused refusal
+written-answer Check.Accepted many = Bytes many
 
 -- 01's number, place and figure of each case
-abbrev pub verdict : Written → Verdict ℕ
-verdict (Refused refusal) = refusing refusal 0
-verdict (Bytes many) = accepting many
+abbrev pub written-verdict : Written → Verdict ℕ
+written-verdict (Refused refusal) = refusing refusal 0
+written-verdict (Bytes many) = accepting many
 
 -- the answer, and the lent block before and after
-pub record Answered (day : Day) (numbers lent after : List ℕ) (written : Written) : Type 0 where
-  pub answers : written ≡ answer (check day numbers (length lent)) (file-size (day .counts))
-  pub leaves : after ≡ accepted-or (check day numbers (length lent)) (sets lent 0 (file-of day (col numbers))) lent
+pub record WrittenAnswered (day : Day) (numbers lent after : List ℕ) (written : Written) : Type 0 where
+  pub answers : written ≡ written-answer (written-check day numbers (length lent)) (file-size (day .counts))
+  pub leaves : after ≡ accepted-or (written-check day numbers (length lent)) (sets lent 0 (file-of day (col numbers))) lent

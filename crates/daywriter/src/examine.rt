@@ -9,7 +9,7 @@ use units::Check;
 use units::MOST_GIGAJOULES;
 ghost use mathlib.Core.Path.{_≡_};
 ghost use Rattle.columns.specs.Column.{col};
-ghost use Rattle.daywriter.specs.Acceptance.{singles, tables, rows-check, sound};
+ghost use Rattle.daywriter.specs.Acceptance.{singles-check, tables-check, rows-check, sound};
 
 // 9, 3, 5 and 4. The rows are looked at where the counts are within their bounds.
 pub fn examine(day: Day, numbers: &[usize]) -> Check
@@ -37,7 +37,7 @@ fn examine_rows(counts: Counts, numbers: &[usize]) -> Check
 
 // 3: the head, then the counts.
 fn examine_singles(day: Day) -> Check
-    ensures { λ r. ⌜ r ≡ singles day ⌝ }
+    ensures { λ r. ⌜ r ≡ singles-check day ⌝ }
 {
     let head = day.head;
     let counts = day.counts;
@@ -49,7 +49,7 @@ fn examine_singles(day: Day) -> Check
 
 // One test over the tables in file order.
 fn examine_tables(test: Test, number: u8, counts: Counts, numbers: &[usize]) -> Check
-    ensures { λ r. ⌜ r ≡ tables test number counts (col (now (numbers .entry))) ⌝ }
+    ensures { λ r. ⌜ r ≡ tables-check test number counts (col (now (numbers .entry))) ⌝ }
 {
     let shipper = first_failing_row(test, counts, numbers, Tag::Shipper);
     let point = first_failing_row(test, counts, numbers, Tag::Point);

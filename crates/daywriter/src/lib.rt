@@ -8,7 +8,7 @@ use dayformat::Day;
 use dayformat::file_size;
 use units::Check;
 use units::Refusal;
-ghost use Rattle.daywriter.specs.Answer.{Answered};
+ghost use Rattle.daywriter.specs.Answer.{WrittenAnswered};
 
 // How many bytes the day's file has, or why the day is refused.
 pub enum Written {
@@ -18,7 +18,7 @@ pub enum Written {
 
 // Writes a day's file to the front of a lent block.
 pub fn write_day(day: Day, numbers: &[usize], block: &mut [u8]) -> Written
-    ensures { λ r. ⌜ Answered day (now (numbers .entry)) (now (block .entry)) (now (block .exit)) r ⌝ }
+    ensures { λ r. ⌜ WrittenAnswered day (now (numbers .entry)) (now (block .entry)) (now (block .exit)) r ⌝ }
 {
     let size = file_size(day.counts);
     let found = examine(day, numbers).keep(size <= block.len(), 7);

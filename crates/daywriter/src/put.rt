@@ -2,6 +2,8 @@
 use bigendian::put_number;
 use dayformat::Counts;
 use dayformat::Day;
+use dayformat::HEADER;
+use dayformat::LENGTH_WIDTH;
 use dayformat::Tag;
 use dayformat::column_at;
 use dayformat::count_of;
@@ -13,10 +15,9 @@ ghost use Prim.Native.Nat.{_+_, _*_, _^_, _<_};
 ghost use lib.Seq.{sets};
 ghost use Rattle.columns.specs.Column.{col};
 ghost use Rattle.bigendian.specs.Row.{encode};
-ghost use Rattle.dayformat.specs.Format.{widths, field-size};
+ghost use Rattle.dayformat.specs.Format.{widths, field-size, field};
 ghost use Rattle.dayformat.specs.Layout.{count};
-ghost use Rattle.dayformat.specs.Table.{field};
-ghost use Rattle.daywriter.specs.Written.{row-from, fields, file-of};
+ghost use Rattle.dayformat.specs.DayBytes.{row-from, fields, file-of};
 
 // The body of the row that begins at a place of the numbers, from a byte of the block on.
 fn put_body(tag: Tag, numbers: &[usize], from: usize, block: &mut [u8], at: usize)
@@ -43,8 +44,8 @@ fn put_field(tag: Tag, numbers: &[usize], from: usize, block: &mut [u8], at: usi
 {
     let form = form_of(tag);
     put_number(form.byte as u32, 1, block, at);
-    put_number(form.size as u32, 2, block, at + 1);
-    put_body(tag, numbers, from, block, at + 3);
+    put_number(form.size as u32, LENGTH_WIDTH, block, at + 1);
+    put_body(tag, numbers, from, block, at + HEADER);
 }
 
 // The fields of one tag; answers where they end.

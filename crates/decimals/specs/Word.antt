@@ -23,14 +23,14 @@ word-check word most =
     then keep (leb (length word) (first (length word) (λ place. not (is-digit (col word place))))) 3
     then keep (leb (value word) most) 3
 
-abbrev pub answer : Check → ℕ → Decimal
-answer Check.Accepted number = Decimal.Number number
-answer (Check.Refused x) number = Decimal.Refused x
+abbrev pub decimal-answer : Check → ℕ → Decimal
+decimal-answer Check.Accepted number = Decimal.Number number
+decimal-answer (Check.Refused x) number = Decimal.Refused x
 
 abbrev pub decimal-of : List ℕ → ℕ → Decimal
-decimal-of word most = answer (word-check word most) (value word)
+decimal-of word most = decimal-answer (word-check word most) (value word)
 
 -- 01's number and place of each case, and the number read
-abbrev pub verdict : Decimal → Verdict ℕ
-verdict (Decimal.Number n) = accepting n
-verdict (Decimal.Refused x) = refusing x 0
+abbrev pub decimal-verdict : Decimal → Verdict ℕ
+decimal-verdict (Decimal.Number n) = accepting n
+decimal-verdict (Decimal.Refused x) = refusing x 0

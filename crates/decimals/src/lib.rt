@@ -1,4 +1,5 @@
 // A word read as one decimal number within a bound, opened.
+use columns::lesser;
 use units::Check;
 use units::Refusal;
 ghost use mathlib.Core.Path.{_≡_};
@@ -45,20 +46,20 @@ fn first_other(word: &[u8]) -> usize
 }
 
 // What a digit stands for.
-fn digit_of(byte: u8) -> u64
+fn digit_of(byte: u8) -> usize
     ensures { λ r. ⌜ (r ≡ byte - 48) × (r < 256) ⌝ }
 {
     if byte < ZERO {
         return 0;
     }
-    (byte - ZERO) as u64
+    (byte - ZERO) as usize
 }
 
 // The smaller of what digits spell and the first number beyond a bound, however many digits there are.
-fn value_up_to(word: &[u8], most: u32) -> u64
+fn value_up_to(word: &[u8], most: u32) -> usize
     ensures { λ r. ⌜ r ≡ min (value (now (word .entry))) (most + 1) ⌝ }
 {
-    let beyond = most as u64 + 1;
+    let beyond = most as usize + 1;
     let mut number = 0;
     let mut place = 0;
     while place < word.len() {
@@ -66,15 +67,6 @@ fn value_up_to(word: &[u8], most: u32) -> u64
         place += 1;
     }
     number
-}
-
-fn lesser(one: u64, other: u64) -> u64
-    ensures { λ r. ⌜ r ≡ min one other ⌝ }
-{
-    if one < other {
-        return one;
-    }
-    other
 }
 
 // 3 unless the word is digits alone, at least one, that spell a number within the bound.
@@ -85,7 +77,7 @@ pub fn decimal_of(word: &[u8], most: u32) -> Decimal
     let found = Check::Accepted
         .keep(0 < word.len(), 3)
         .keep(word.len() <= first_other(word), 3)
-        .keep(number <= most as u64, 3);
+        .keep(number <= most as usize, 3);
     match found {
         Check::Refused(refusal) => Decimal::Refused(refusal),
         Check::Accepted => Decimal::Number(number as u32),

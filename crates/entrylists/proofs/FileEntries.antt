@@ -11,13 +11,12 @@ use Rattle.dayformat.specs.declared.day.Day.{Day}
 use Rattle.dayformat.specs.declared.form.Tag.{Tag}
 use Rattle.dayformat.specs.declared.form.Tag.the-variants.{Head, Shipper, Point, Entry, Meter}
 use Rattle.dayformat.specs.Layout.{run-size}
-use Rattle.dayformat.specs.Table.{field}
+use Rattle.dayformat.specs.Format.{field}
 use Rattle.dayfile.specs.File.{tables, walked}
 use Rattle.dayfile.specs.Answer.{day-of}
-use Rattle.daywriter.specs.Written.{head-row, fields, file-of}
-use Rattle.daywriter.proofs.Accepting.{accepting}
-use Rattle.daywriter.proofs.Sizes.{length-field, length-fields, length-file-of}
-use Rattle.roundtrip.proofs.FileAgain.{file-again, day-accepted}
+use Rattle.dayformat.specs.DayBytes.{head-row, fields, file-of}
+use Rattle.dayformat.proofs.Sizes.{length-field, length-fields, length-file-of}
+use Rattle.dayfile.proofs.FileAgain.{file-again, read-sound}
 use Rattle.entrylists.specs.SideLists.{entries-start, entry-bytes, Parted}
 use Rattle.entrylists.proofs.Parts.{parted}
 
@@ -59,5 +58,5 @@ module _ (file : List ℕ) (are : AreBytes file) (none : walked file .fault ≡ 
       → Parted (walked file .counts) (col (tables file .numbers)) (entry-bytes (walked file .counts) file) side point
   file-parted side point h some =
       rw entries-are
-      (parted (day-of file) (tables file .numbers) (accepting (day-of file) (tables file .numbers) (day-accepted file none))
+      (parted (day-of file) (tables file .numbers) (read-sound file none)
       side point h some)

@@ -4,3 +4,4 @@ pub mod SideRuns
 pub mod SideParts
 pub mod Parts
 pub mod FileEntries
+pub mod Splitting

@@ -1,25 +1,24 @@
 -- A sound day's tag 4 fields, parted where side 1 begins: both lists are accepted, and a point's part is the fields of all its entries.
-use mathlib.Core.Path.{_≡_, ap, ap₂, sym, _∙_}
+use mathlib.Core.Path.{_≡_, ap, _∙_}
 use mathlib.Core.List.{List}
 use Prim.Native.Nat.{ℕ, zero, suc, _+_, _-_, _*_, _/_, _≤_, _<_}
 use native.Mathlib.Nat.{zero-add}
 use native.Mathlib.Omega.{arith}
 use lib.Dec.{eqb}
 use lib.ListN.{length, take, drop}
-use Rattle.columns.specs.Column.{col, listed}
+use Rattle.columns.specs.Column.{col, listed, joined}
 use Rattle.columns.specs.First.{first}
 use Rattle.columns.proofs.Firsts.{first-same}
 use Rattle.bigendian.specs.Number.{bytes}
 use Rattle.bigendian.specs.Row.{encode}
 use Rattle.dayformat.specs.declared.day.Day.{Day}
 use Rattle.dayformat.specs.declared.form.Tag.the-variants.{Entry}
-use Rattle.dayformat.specs.Format.{column-in, field-size}
+use Rattle.dayformat.specs.Format.{column-in, header, field-size}
 use Rattle.dayformat.specs.Layout.{count}
-use Rattle.dayformat.specs.Table.{joined}
-use Rattle.dayformat.proofs.Tables.{length-joined, col-joined}
-use Rattle.daywriter.specs.Written.{fields}
-use Rattle.daywriter.proofs.Accepting.{Sound}
-use Rattle.pointentries.proofs.EntryLists.{entry-size}
+use Rattle.columns.proofs.Joined.{length-joined, col-joined}
+use Rattle.dayformat.specs.DayBytes.{fields}
+use Rattle.dayrows.specs.Private.{Sound}
+use Rattle.dayformat.proofs.Sizes.{entry-size}
 use Rattle.dayvalues.specs.Row.{number-at}
 use Rattle.entrylists.specs.PointRows.{entry-field}
 use Rattle.entrylists.specs.SideLists.{first-delivery, receipt-list, delivery-list, Parted}
@@ -46,20 +45,19 @@ module _ (day : Day) (numbers : List ℕ) (S : Sound day numbers) where
   unfolding bytes encode listed column-in
   fourth-byte row h = omega (arith, h)
 
-  side-byte : (row : ℕ) → row < all → col whole (row * 12 + 3) ≡ number row 0
+  side-byte : (row : ℕ) → row < all → col whole (row * field-size Entry + header) ≡ number row 0
   side-byte row l =
-      col-joined field-at 12 (λ row. field-long day numbers S row ∙ entry-size) all row 3 l (omega arith)
+      col-joined field-at (field-size Entry) (field-long day numbers S) all row header l (omega (arith, entry-size))
       ∙ fourth-byte row (side-small day numbers S row l)
 
-  rows-there : length whole / 12 ≡ all
-  rows-there = omega (arith, length-joined field-at 12 (λ row. field-long day numbers S row ∙ entry-size) all)
+  rows-there : length whole / field-size Entry ≡ all
+  rows-there = rw entry-size (omega (arith, length-joined field-at 12 (λ row. field-long day numbers S row ∙ entry-size) all))
 
   begins : first-delivery whole ≡ receipts day numbers S * field-size Entry
   begins =
-      ap₂ _*_
-      (ap (λ rows. first rows (λ row. eqb (col whole (row * 12 + 3)) 1)) rows-there
+      ap (λ rows. rows * field-size Entry)
+      (ap (λ rows. first rows (λ row. eqb (col whole (row * field-size Entry + header)) 1)) rows-there
       ∙ first-same all _ _ (λ row l. ap (λ side. eqb side 1) (side-byte row l)))
-      (sym entry-size)
 
   abbrev receipt-many : ℕ
   receipt-many = receipts day numbers S

@@ -9,10 +9,10 @@ use native.Mathlib.Decide.{decLt}
 use native.Mathlib.Omega.{arith}
 use lib.ListN.{length, take, drop}
 use lib.Seq.{take-at, drop-at}
+use Rattle.columns.specs.Column.{joined}
 use Rattle.columns.specs.First.{first}
 use Rattle.columns.proofs.Firsts.{first-found, first-none, first-le, first-before, first-marked}
-use Rattle.dayformat.specs.Table.{joined}
-use Rattle.dayformat.proofs.Tables.{joined-same, joined-more, length-joined}
+use Rattle.columns.proofs.Joined.{joined-same, joined-more, length-joined}
 
 -- the rows past so many change nothing where the first of them is marked
 first-longer : (p : ℕ → Bool) (m n : ℕ) → m ≤ n → (m < n → p m ≡ true) → first n p ≡ first m p

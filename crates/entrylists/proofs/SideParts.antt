@@ -7,7 +7,7 @@ use native.Mathlib.Decide.{decLt}
 use native.Mathlib.Omega.{arith}
 use borrow.Author.Tests.{eq-eqb, ne-eqb, eqb-true}
 use lib.ListN.{length, take, drop}
-use Rattle.columns.specs.Column.{col}
+use Rattle.columns.specs.Column.{col, joined}
 use Rattle.columns.specs.First.{first}
 use Rattle.columns.proofs.Firsts.{first-same, first-le}
 use Rattle.units.specs.declared.refusal.Check.the-variants.{Accepted}
@@ -15,12 +15,11 @@ use Rattle.dayformat.specs.declared.day.Day.{Day}
 use Rattle.dayformat.specs.declared.form.Tag.the-variants.{Entry}
 use Rattle.dayformat.specs.Format.{field-size}
 use Rattle.dayformat.specs.Layout.{count, row-start}
-use Rattle.dayformat.specs.Table.{joined}
-use Rattle.daywriter.proofs.Accepting.{Sound}
-use Rattle.daywriter.proofs.Sizes.{length-row-field}
+use Rattle.dayrows.specs.Private.{Sound}
+use Rattle.dayformat.proofs.Sizes.{length-row-field, entry-size}
 use Rattle.dayruns.specs.Run.{row-of}
 use Rattle.pointentries.specs.Entries.{entries, list-check, is-of, first-entry, many-entries, start-in, long-in}
-use Rattle.pointentries.proofs.EntryLists.{entry-size, place-is}
+use Rattle.pointentries.proofs.EntryLists.{place-is}
 use Rattle.pointentries.proofs.EntryParts.{part-every}
 use Rattle.dayvalues.specs.Row.{number-at}
 use Rattle.entrylists.specs.PointRows.{is-entry, first-row, many-rows, entry-field, point-fields}

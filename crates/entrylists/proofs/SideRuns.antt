@@ -8,7 +8,7 @@ use native.Mathlib.Omega.{arith}
 use borrow.Author.Tests.{ltb-true, le-leb, lt-ltb, eq-eqb}
 use lib.Dec.{ltb, eqb}
 use lib.ListN.{length}
-use Rattle.columns.specs.Column.{col}
+use Rattle.columns.specs.Column.{col, joined}
 use Rattle.columns.proofs.Firsts.{first-same, first-none}
 use Rattle.columns.proofs.Lists.{length-listed, col-listed}
 use Rattle.units.specs.declared.refusal.Check.the-variants.{Accepted}
@@ -17,32 +17,31 @@ use Rattle.dayformat.specs.declared.day.Day.{Day}
 use Rattle.dayformat.specs.declared.form.Tag.the-variants.{Entry}
 use Rattle.dayformat.specs.Format.{body, column-in, field-size}
 use Rattle.dayformat.specs.Layout.{count, no-rows, row-start}
-use Rattle.dayformat.specs.Table.{joined}
-use Rattle.dayformat.proofs.Tables.{length-joined, col-joined}
+use Rattle.columns.proofs.Joined.{length-joined, col-joined}
 use Rattle.dayrows.specs.declared.Source.the-variants.{Side}
 use Rattle.dayrows.specs.declared.Test.{Test}
 use Rattle.dayrows.specs.declared.Test.the-variants as Test
-use Rattle.dayrows.specs.Test.{within, bounded, difference, rises, starved, passes, fault}
+use Rattle.dayrows.specs.Test.{in-bounds, bounded, difference, rises, starved, passes, fault}
 use Rattle.dayrows.proofs.Faults.{none-fault}
 use Rattle.dayrows.proofs.Within.{both}
 use Rattle.dayruns.specs.Run.{Fields, place-of, row-of, rows-of}
 use Rattle.dayruns.specs.Walk.{walk-after, ended}
-use Rattle.daywriter.specs.Written.{row-from}
-use Rattle.daywriter.proofs.Accepting.{Sound}
-use Rattle.daywriter.proofs.Sizes.{length-row-field}
-use Rattle.roundtrip.proofs.WrittenRuns.{Written, row-again, rows-again, run-again}
+use Rattle.dayformat.specs.DayBytes.{row-from}
+use Rattle.dayrows.specs.Private.{Sound}
+use Rattle.dayformat.proofs.Sizes.{length-row-field}
+use Rattle.dayfile.proofs.WrittenRuns.{Written, row-again, rows-again, run-again}
 use Rattle.pointentries.specs.Entries.{entries, entry-run, entry-rows, unread, entry-walk, list-check, is-of}
 use Rattle.dayvalues.specs.Row.{number-at}
 use Rattle.entrylists.specs.PointRows.{entry-field}
-use Rattle.roundtrip.proofs.DayAgain.{row-fits}
+use Rattle.dayrows.proofs.SoundRows.{row-fits}
 use Rattle.entrylists.proofs.Sides.{entry-bounded}
 
 -- every number of an entry is within its bounds
-bounded-all : (f : ℕ → ℕ) (at : ℕ) → ((place : ℕ) → place < 4 → within (column-in (body Entry) place) (f (at + place)) ≡ true)
+bounded-all : (f : ℕ → ℕ) (at : ℕ) → ((place : ℕ) → place < 4 → in-bounds (column-in (body Entry) place) (f (at + place)) ≡ true)
     → bounded f Entry at ≡ true
 unfolding bounded
 bounded-all f at all =
-    le-leb _ _ (le-of-eq (sym (first-none (λ place. not (within (column-in (body Entry) place) (f (at + place)))) 4
+    le-leb _ _ (le-of-eq (sym (first-none (λ place. not (in-bounds (column-in (body Entry) place) (f (at + place)))) 4
     (λ place l. ap not (all place l)))))
 
 -- a key rises wherever its numbers stand
@@ -137,7 +136,7 @@ module _ (day : Day) (numbers : List ℕ) (S : Sound day numbers) (from many sid
           lt-ltb i 512 (omega (arith, l, inside, S .few Entry)),
           bounded-all (read i) (row-start no-rows Entry i)
               (λ place k.
-              ap (within (column-in (body Entry) place)) (stands (suc i) i place (lt-suc-self i) k)
+              ap (in-bounds (column-in (body Entry) place)) (stands (suc i) i place (lt-suc-self i) k)
               ∙ entry-bounded day numbers S (from + i) (omega (arith, l, inside)) place k),
         )
         (eq-eqb _ side (ap (read i) (omega arith) ∙ stands (suc i) i 0 (lt-suc-self i) (omega arith) ∙ sided i l))

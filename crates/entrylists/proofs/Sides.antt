@@ -17,9 +17,9 @@ use Rattle.dayformat.specs.Format.{body, column-in}
 use Rattle.dayformat.specs.Layout.{count, row-start}
 use Rattle.dayrows.specs.declared.Source.the-variants.{File}
 use Rattle.dayrows.specs.declared.Test.the-variants as Test
-use Rattle.dayrows.specs.Test.{within, difference, rises, passes}
+use Rattle.dayrows.specs.Test.{in-bounds, difference, rises, passes}
 use Rattle.dayrows.proofs.Within.{both, passes-bounded, within-bounds}
-use Rattle.daywriter.proofs.Accepting.{Sound}
+use Rattle.dayrows.specs.Private.{Sound}
 use Rattle.dayvalues.specs.Row.{number-at}
 
 -- where a key rises, its first number does not fall
@@ -51,7 +51,7 @@ module _ (day : Day) (numbers : List ℕ) (S : Sound day numbers) where
   side row = number-at (day .counts) (col numbers) Entry row 0
 
   pub entry-bounded : (row : ℕ) → row < many → (place : ℕ) → place < 4
-      → within (column-in (body Entry) place) (number-at (day .counts) (col numbers) Entry row place) ≡ true
+      → in-bounds (column-in (body Entry) place) (number-at (day .counts) (col numbers) Entry row place) ≡ true
   entry-bounded row l = passes-bounded File (day .counts) (col numbers) Entry row (S .passes Entry tt Test.Bounds row l) .1
 
   pub side-small : (row : ℕ) → row < many → side row ≤ 1

@@ -3,12 +3,13 @@ use mathlib.Core.Bool.{Bool, false, cond, not}
 use mathlib.Core.List.{List}
 use Prim.Native.Nat.{ℕ, _+_, _-_}
 use lib.Dec.{eqb}
+use Rattle.columns.specs.Column.{joined}
 use Rattle.columns.specs.First.{first}
 use Rattle.dayformat.specs.declared.form.Tag.the-variants.{Entry}
 use Rattle.dayformat.specs.declared.layout.Counts.{Counts}
 use Rattle.dayformat.specs.Layout.{count, row-start}
-use Rattle.dayformat.specs.Table.{joined, field}
-use Rattle.daywriter.specs.Written.{row-from}
+use Rattle.dayformat.specs.Format.{field}
+use Rattle.dayformat.specs.DayBytes.{row-from}
 use Rattle.dayvalues.specs.Row.{number-at}
 
 -- tag 4: side, point, shipper, RE

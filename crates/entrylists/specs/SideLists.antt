@@ -10,13 +10,15 @@ use Rattle.columns.specs.First.{first}
 use Rattle.units.specs.declared.refusal.Check.the-variants.{Accepted}
 use Rattle.dayformat.specs.declared.form.Tag.the-variants.{Head, Shipper, Point, Entry}
 use Rattle.dayformat.specs.declared.layout.Counts.{Counts}
+use Rattle.dayformat.specs.Format.{header, field-size}
 use Rattle.dayformat.specs.Layout.{count, run-size}
 use Rattle.pointentries.specs.Entries.{asked, entries-check, part-start, part-long}
 use Rattle.entrylists.specs.PointRows.{is-entry, first-row, many-rows, point-fields}
 
--- a field has twelve bytes, its side behind the tag and the length
+-- the byte at which the first whole field of side 1 begins, or the end of the last; a side is one byte behind the header
 abbrev pub first-delivery : List ℕ → ℕ
-first-delivery list = first (length list / 12) (λ row. eqb (col list (row * 12 + 3)) 1) * 12
+first-delivery list =
+    first (length list / field-size Entry) (λ row. eqb (col list (row * field-size Entry + header)) 1) * field-size Entry
 
 -- the fields before the first of side 1, and those from it on
 abbrev pub receipt-list : List ℕ → List ℕ

@@ -1,3 +1,3 @@
 pub mod Excesses
-pub mod Periods
 pub mod Greatest
+pub mod Periods

@@ -15,13 +15,13 @@ period-gas hours h = sum 12 (λ k. hours (h - 1 + k))
 abbrev pub period-excess : ℕ → ℕ → (ℕ → ℕ) → ℕ → ℕ
 period-excess p m hours h = period-gas hours h - period-limit p m h
 
--- the excesses of the periods that end before hour h
-abbrev pub excesses-before : ℕ → ℕ → (ℕ → ℕ) → ℕ → ℕ
-excesses-before p m hours h = sum (h - 1) (λ before. period-excess p m hours (before + 1))
+-- the sum over the hours 1 to n
+abbrev pub over-hours : ℕ → (ℕ → ℕ) → ℕ
+over-hours n f = sum n (λ before. f (before + 1))
 
--- the sum of the 24 excesses, h from 1 to 24
+-- the sum of the 24 excesses
 abbrev pub twelve-hourly : ℕ → ℕ → (ℕ → ℕ) → ℕ
-twelve-hourly p m hours = sum 24 (λ before. period-excess p m hours (before + 1))
+twelve-hourly p m hours = over-hours 24 (period-excess p m hours)
 
 -- the most that it can be, which is the bound of a chargeable overrun
 abbrev pub most-twelve-hourly : ℕ

@@ -4,20 +4,20 @@ use Rattle.columns.specs.Sum.{sum}
 use Rattle.columns.specs.First.{first-from}
 use Rattle.units.specs.Refusals.{_then_, keep, clear}
 use Rattle.sharing.specs.Chain.{after}
-use Rattle.daytable.specs.Acceptance as Day
+use Rattle.daytable.specs.Acceptance.{bounds-check, lengths-check, table-check}
 use Rattle.dayshares.specs.Firm.{given-one, given-two, given-firm}
 use Rattle.dayshares.specs.Class.{class-level, class-given}
 use Rattle.pointshares.specs.Share.{share, stranded}
-use Rattle.pointshares.specs.Answer as Point
-use Rattle.usegas.specs.Fuel.{check}
-use Rattle.metered.specs.Hours.{rows-check}
+use Rattle.pointshares.specs.Answer.{hour-check}
+use Rattle.usegas.specs.Fuel.{fuel-check}
+use Rattle.metered.specs.Hours.{hours-check}
 use Rattle.metered.specs.Singles.{mdqs-check, side-check, sides-check}
 use Rattle.excesses.specs.TwelveHourly.{period-limit}
 use Rattle.overruns.specs.Day.{day-check}
 use Rattle.tariff.specs.HalfUp.{half-up}
 use Rattle.tariff.specs.Charges.{overrun-check, variation-check}
 use Rattle.tariff.specs.Escalation.{escalation-check}
-use Rattle.figures.specs.Line.{given, said}
+use Rattle.figures.specs.Line.{defined, said}
 use Rattle.figures.specs.Table.{Figures}
 use Rattle.figures.proofs.Levels.{
   first-one,
@@ -33,8 +33,8 @@ use Rattle.figures.proofs.Levels.{
 }
 
 pub figures : Figures
-unfolding given said listed sum first-from _then_ keep clear
-    Day.lengths Day.figures Day.check given-one given-two given-firm after class-level class-given
-    Point.check stranded share check
-    period-limit mdqs-check side-check sides-check rows-check day-check half-up overrun-check variation-check escalation-check
+unfolding defined said listed sum first-from _then_ keep clear
+    lengths-check bounds-check table-check given-one given-two given-firm after class-level class-given
+    hour-check stranded share fuel-check
+    period-limit mdqs-check side-check sides-check hours-check day-check half-up overrun-check variation-check escalation-check
 figures = rw (first-three, first-two, first-one, second-three, second-two, second-one, third-three, third-two, third-one, third-auction)

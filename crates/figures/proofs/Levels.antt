@@ -9,8 +9,7 @@ use Rattle.columns.specs.Column.{col}
 use Rattle.sharing.specs.Round.{top, total, level}
 use Rattle.sharing.specs.Chain.{after}
 use Rattle.sharing.proofs.Levels.{level-one as the-level}
-use Rattle.dayshares.specs.Firm.{level-one, level-two, level-three, given-one, given-two}
-use Rattle.dayshares.specs.Given.{firm}
+use Rattle.dayshares.specs.Firm.{level-one, level-two, level-three, given-one, given-two, firm}
 use Rattle.figures.specs.Days.{first-day, second-day, third-day}
 
 module _ (n : ℕ) (w q : ℕ → ℕ) (c : ℕ) where

@@ -11,9 +11,9 @@ Column [] = Unit
 Column (_is_ {Figure} x y ∷ lines) = Figure × Column lines
 
 -- what the definitions give
-unfoldable pub given : (lines : List Line) → Column lines
-given [] = tt
-given (x is y ∷ lines) = (x, given lines)
+unfoldable pub defined : (lines : List Line) → Column lines
+defined [] = tt
+defined (x is y ∷ lines) = (x, defined lines)
 
 -- what 01 says
 unfoldable pub said : (lines : List Line) → Column lines

@@ -4,22 +4,21 @@ use mathlib.Core.List.{List, [], _∷_}
 use Prim.Native.Nat.{ℕ}
 use Rattle.columns.specs.Column.{listed}
 use Rattle.daytable.specs.Table.{rows}
-use Rattle.dayshares.specs.Firm.{given-one}
-use Rattle.dayshares.specs.Given.{firm}
+use Rattle.dayshares.specs.Firm.{given-one, firm}
 use Rattle.pointshares.specs.declared.Hour.the-variants.{Shared}
 use Rattle.usegas.specs.declared.fuel.ImbalanceFuel.the-variants.{Supplied}
 use Rattle.usegas.specs.Fuel.{imbalance-fuel}
 use Rattle.excesses.specs.Hourly.{hour-excess}
 use Rattle.excesses.specs.TwelveHourly.{period-limit}
 use Rattle.overruns.specs.declared.day.DayOverruns.the-variants.{Over}
-use Rattle.overruns.specs.Day.{with-greatest, day-answer, verdict}
+use Rattle.overruns.specs.Day.{with-greatest, day-answer, day-verdict}
 use Rattle.tariff.specs.declared.charges.Change.{Change}
 use Rattle.tariff.specs.declared.charges.Charge.the-variants.{Charged}
 use Rattle.tariff.specs.declared.escalation.Escalation.the-variants.{Escalated}
 use Rattle.tariff.specs.Rates.{overrun-rate, variation-rate}
 use Rattle.tariff.specs.Charges.{overrun-charge, variation-charge}
 use Rattle.tariff.specs.Escalation.{escalation}
-use Rattle.figures.specs.Line.{Line, _is_, given, said}
+use Rattle.figures.specs.Line.{Line, _is_, defined, said}
 use Rattle.figures.specs.Units.{gigajoules, megajoules, cents, rate, imbalance}
 use Rattle.figures.specs.Days.{first-day, second-day, third-day, steady-day}
 use Rattle.figures.specs.Answers.{share-day, day-lists, shared, levels, share-hour, hour-list}
@@ -61,7 +60,7 @@ table =
     -- P and M 1000, 48,000 delivered in all 35 hours, nothing received, forward delivery 1,152, no backhaul:
     -- 288,000 MJ twelve-hourly, others zero, 103,392 cents.
     ∷ day-answer steady-day is Over (with-greatest 0 288_000 0 0)
-    ∷ overrun-charge overrun-rate (verdict (day-answer steady-day) .figures .greatest) is Charged (cents 103_392)
+    ∷ overrun-charge overrun-rate (day-verdict (day-answer steady-day) .figures .greatest) is Charged (cents 103_392)
     -- MDQ 1000: PI 80,000 and 80,099 give 0, 80,100 gives 1.
     ∷ imbalance-fuel (imbalance 80_000) (imbalance 0) (gigajoules 1_000) is Supplied (megajoules 0)
     ∷ imbalance-fuel (imbalance 80_099) (imbalance 0) (gigajoules 1_000) is Supplied (megajoules 0)
@@ -73,4 +72,4 @@ table =
 
 -- the claim: line by line, what the definitions give is what 01 says
 abbrev pub Figures : Type 0
-Figures = given table ≡ said table
+Figures = defined table ≡ said table

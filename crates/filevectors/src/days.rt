@@ -4,7 +4,6 @@ use crate::answers::put_refusal;
 use crate::case::bytes;
 use crate::case::past;
 use crate::case::past_bytes;
-use crate::case::smaller;
 use crate::case::wide;
 use crate::case::word;
 use crate::lent::LENT_BYTE;
@@ -13,6 +12,7 @@ use crate::lent::MOST_BYTES;
 use crate::lent::MOST_NUMBERS;
 use crate::lent::put_block;
 use crate::lent::put_numbers;
+use columns::lesser;
 use dayfile::Reading;
 use dayformat::Counts;
 use dayformat::Day;
@@ -22,7 +22,7 @@ use units::Gigajoules;
 
 pub fn answer_reading(case: &[u8]) {
     let mut lent = [LENT_NUMBER; MOST_NUMBERS];
-    let room = smaller(word(case, 0) as usize, MOST_NUMBERS);
+    let room = lesser(word(case, 0) as usize, MOST_NUMBERS);
     let reading = dayfile::read_day(bytes(past(case, 1)), &mut lent[0..room]);
     io::write_all(1, b"read_day");
     match reading {
@@ -52,11 +52,11 @@ fn put_day(day: Day) {
 
 pub fn answer_writing(case: &[u8]) {
     let mut lent = [LENT_BYTE; MOST_BYTES];
-    let room = smaller(word(case, 7) as usize, MOST_BYTES);
+    let room = lesser(word(case, 7) as usize, MOST_BYTES);
     let halves = past(case, 8);
     let lower = bytes(halves);
     let numbers = numbers_of(bytes(past_bytes(halves)), lower);
-    let count = smaller(lower.len() / 4, MOST_NUMBERS);
+    let count = lesser(lower.len() / 4, MOST_NUMBERS);
     let written = daywriter::write_day(day_of(case), &numbers[0..count], &mut lent[0..room]);
     io::write_all(1, b"write_day");
     match written {

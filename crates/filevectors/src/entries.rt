@@ -5,16 +5,16 @@ use crate::answers::put_refusal;
 use crate::case::bytes;
 use crate::case::past;
 use crate::case::past_bytes;
-use crate::case::smaller;
 use crate::case::word;
+use columns::lesser;
 use units::Check;
 
 fn side_of(case: &[u8]) -> u8 {
-    smaller(word(case, 0) as usize, 255) as u8
+    lesser(word(case, 0) as usize, 255) as u8
 }
 
 fn point_of(case: &[u8]) -> u16 {
-    smaller(word(case, 1) as usize, 65_535) as u16
+    lesser(word(case, 1) as usize, 65_535) as u16
 }
 
 pub fn answer_check(case: &[u8]) {

@@ -1,7 +1,7 @@
 // A lent block as it is after the call: up to its last element that is not as it was lent, then how many are kept after that one.
 use crate::answers::put;
 use crate::answers::put_byte;
-use crate::case::smaller;
+use columns::lesser;
 ghost use Prim.Native.Nat.{_≤_};
 
 // What a lent number is before the call: no answer has it.
@@ -48,7 +48,7 @@ fn put_kept(count: usize) {
 fn written_numbers(lent: &[usize; MOST_NUMBERS], room: usize) -> usize
     ensures { λ r. ⌜ (r ≤ room) × (r ≤ 6881) ⌝ }
 {
-    let mut written = smaller(room, MOST_NUMBERS);
+    let mut written = lesser(room, MOST_NUMBERS);
     while 0 < written && lent[written - 1] == LENT_NUMBER {
         written -= 1;
     }
@@ -58,7 +58,7 @@ fn written_numbers(lent: &[usize; MOST_NUMBERS], room: usize) -> usize
 fn written_bytes(lent: &[u8; MOST_BYTES], room: usize) -> usize
     ensures { λ r. ⌜ (r ≤ room) × (r ≤ 25552) ⌝ }
 {
-    let mut written = smaller(room, MOST_BYTES);
+    let mut written = lesser(room, MOST_BYTES);
     while 0 < written && lent[written - 1] == LENT_BYTE {
         written -= 1;
     }

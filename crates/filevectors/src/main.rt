@@ -7,8 +7,8 @@ mod lent;
 mod texts;
 
 use case::past;
-use case::smaller;
 use case::word;
+use columns::lesser;
 
 // No case has more words: what a large buffer holds.
 const MOST_WORDS: usize = 16_384;
@@ -27,7 +27,7 @@ fn answer_next() -> bool {
     if io::read_full(0, &mut head) < 4 {
         return false;
     }
-    let size = 4 * smaller(word(&head, 0) as usize, MOST_WORDS);
+    let size = 4 * lesser(word(&head, 0) as usize, MOST_WORDS);
     let mut body = io::large_buffer();
     answer_read(&mut body[0..size]);
     true

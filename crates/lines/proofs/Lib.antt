@@ -4,3 +4,4 @@ pub mod Determined
 pub mod Decided
 pub mod Figures
 pub mod Sizes
+pub mod Texts

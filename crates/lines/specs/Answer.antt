@@ -12,20 +12,20 @@ use Rattle.units.specs.Verdict.{Verdict, accepting, refusing}
 use Rattle.lines.specs.declared.Listing.{Listing}
 use Rattle.lines.specs.declared.Listing.the-variants.{Refused, Text}
 
-abbrev pub answer : Check → ℕ → Listing
-answer (Check.Refused refusal) many = Refused refusal
-answer Check.Accepted many = Text many
+abbrev pub listing-answer : Check → ℕ → Listing
+listing-answer (Check.Refused refusal) many = Refused refusal
+listing-answer Check.Accepted many = Text many
 
 -- 01's number, place and figure of each case: the size of the text
-abbrev pub verdict : Listing → Verdict ℕ
-verdict (Text many) = accepting many
-verdict (Refused refusal) = refusing refusal 0
+abbrev pub listing-verdict : Listing → Verdict ℕ
+listing-verdict (Text many) = accepting many
+listing-verdict (Refused refusal) = refusing refusal 0
 
 -- 7 exactly when a text that the tests before accept is longer than the room
-unfoldable pub check : Check → List ℕ → ℕ → Check
-check tests text room = tests then keep (leb (length text) room) 7
+unfoldable pub listing-check : Check → List ℕ → ℕ → Check
+listing-check tests text room = tests then keep (leb (length text) room) 7
 
 -- what the tests of its input find and its text; the lent block before and after, and the answer
-pub record Listed (tests : Check) (text lent after : List ℕ) (listing : Listing) : Type 0 where
-  pub answers : listing ≡ answer (check tests text (length lent)) (length text)
-  pub leaves : after ≡ accepted-or (check tests text (length lent)) (sets lent 0 text) lent
+pub record ListingAnswered (tests : Check) (text lent after : List ℕ) (listing : Listing) : Type 0 where
+  pub answers : listing ≡ listing-answer (listing-check tests text (length lent)) (length text)
+  pub leaves : after ≡ accepted-or (listing-check tests text (length lent)) (sets lent 0 text) lent

@@ -1,16 +1,16 @@
 // The lines of a listing, laid into a lent block. Every input is taken: what lies past the block is dropped.
+use columns::lesser;
 use text::put_byte;
 use text::put_bytes;
 use text::put_decimal;
 use units::Refusal;
-ghost use mathlib.Core.Path.{_≡_};
 ghost use mathlib.Core.List.{[], _∷_, _++_};
-ghost use Prim.Native.Nat.{_+_, _^_, _≤_, _<_, min};
+ghost use Prim.Native.Nat.{_+_, _^_, _≤_, _<_};
 ghost use lib.ListN.{length, take};
 ghost use Rattle.text.specs.Text.{decimal, Laid};
 ghost use Rattle.units.specs.declared.refusal.Check.the-variants.{Accepted};
 ghost use Rattle.lines.specs.Line.{most-figures, spaced, labelled, decimals, line, refused};
-ghost use Rattle.lines.specs.Answer.{Listed};
+ghost use Rattle.lines.specs.Answer.{ListingAnswered};
 
 const LINE_END: u8 = 10;
 
@@ -72,7 +72,7 @@ pub fn put_refusal(refusal: Refusal, text: &mut [u8], at: usize) -> usize
 
 // Lays the line of a refusal to the front of a lent block. It is counted before: laid from the block's end on, it changes nothing.
 pub fn refusal_line(refusal: Refusal, lent: &mut [u8]) -> Listing
-    ensures { λ r. ⌜ Listed Accepted (refused refusal) (now (lent .entry)) (now (lent .exit)) r ⌝ }
+    ensures { λ r. ⌜ ListingAnswered Accepted (refused refusal) (now (lent .entry)) (now (lent .exit)) r ⌝ }
 {
     let room = lent.len();
     let size = put_refusal(refusal, lent, room);
@@ -109,13 +109,4 @@ fn put_figures(figures: &[u64], text: &mut [u8], at: usize) -> usize
         place += 1;
     }
     size + put_ended(figures[last], LINE_END, text, at + size)
-}
-
-fn lesser(one: usize, other: usize) -> usize
-    ensures { λ r. ⌜ r ≡ min one other ⌝ }
-{
-    if one < other {
-        return one;
-    }
-    other
 }

@@ -7,7 +7,6 @@ use native.Mathlib.Omega.{arith}
 use borrow.Author.Tests.{le-leb}
 use lib.ListN.{length, take}
 use lib.Seq.{length-take-le}
-use Rattle.bigendian.specs.Number.{AreBytes}
 use Rattle.units.specs.declared.refusal.Refusal.{Refusal}
 use Rattle.units.specs.declared.refusal.Check.{Check}
 use Rattle.units.specs.declared.refusal.Check.the-variants.{Accepted, Refused}
@@ -15,24 +14,22 @@ use Rattle.units.specs.Refusals.{_then_}
 use Rattle.units.proofs.Checks.{accepts-both, accepts-kept, both-accepted}
 use Rattle.lines.specs.declared.Listing.{Listing}
 use Rattle.lines.specs.declared.Listing.the-variants as Listing
-use Rattle.lines.specs.Answer.{Listed}
-use Rattle.lines.specs.Answer as lines
+use Rattle.lines.specs.Answer.{ListingAnswered, listing-check}
 use Rattle.dayformat.specs.declared.day.Day.{Day}
 use Rattle.dayformat.specs.Layout.{numbers-in}
 use Rattle.dayruns.specs.Walk.{file-check}
 use Rattle.dayfile.specs.declared.reader.Reading.{Reading}
 use Rattle.dayfile.specs.declared.reader.Reading.the-variants as Reading
 use Rattle.dayfile.specs.File.{tables, walked}
-use Rattle.dayfile.specs.Answer.{day-of}
-use Rattle.dayfile.specs.Answer as reader
+use Rattle.dayfile.specs.Answer.{ReadingAnswered, day-of, reading-check}
 use Rattle.dayfile.proofs.Reaching.{numbers-most}
-use Rattle.daywriter.specs.Acceptance.{sound}
-use Rattle.roundtrip.proofs.FileAgain.{day-accepted}
-use Rattle.roundtrip.proofs.OnRoutines.{told, reads-day, lent-room, taken-numbers}
+use Rattle.dayfile.proofs.FileAgain.{read-sound}
+use Rattle.dayfile.proofs.Told.{told, none, lent-room, taken-numbers}
+use Rattle.dayrows.specs.Private.{Sound}
 
 -- ---- a refusal
 module _ (file lent after : List ℕ) (room : length lent ≡ 6_880) (x : Refusal)
-    (R : reader.Answered file lent after (Reading.Refused x)) where
+    (R : ReadingAnswered file lent after (Reading.Refused x)) where
   abbrev is-refused : Reading → Bool
   is-refused (Reading.Refused refusal) = true
   is-refused (Reading.Read day) = false
@@ -42,12 +39,12 @@ module _ (file lent after : List ℕ) (room : length lent ≡ 6_880) (x : Refusa
   refusal-or y (Reading.Read day) = y
 
   pub file-refused : file-check (walked file) ≡ Refused x
-  unfolding reader.check _then_
+  unfolding reading-check _then_
   file-refused = by (file-check (walked file)) refl
     where
       by : (found : Check) → file-check (walked file) ≡ found → found ≡ Refused x
       by Accepted e =
-          let accepted : reader.check file (length lent) ≡ Accepted =
+          let accepted : reading-check file (length lent) ≡ Accepted =
           accepts-both e (accepts-kept 7 (le-leb (numbers-in (walked file .counts)) (length lent)
           (omega (arith, room, numbers-most file))))
           in let same : Reading.Refused x ≡ Reading.Read (day-of file) = R .answers
@@ -56,26 +53,26 @@ module _ (file lent after : List ℕ) (room : length lent ≡ 6_880) (x : Refusa
           let same : Reading.Refused x ≡ Reading.Refused y = R .answers
           ∙ rw e in ap (λ refusal. Refused refusal) (sym (ap (refusal-or x) same))
 
-  pub lists-refusal : (text block : List ℕ) → Listed (file-check (walked file)) text block block (Listing.Refused x)
-  unfolding lines.check _then_
+  pub lists-refusal : (text block : List ℕ) → ListingAnswered (file-check (walked file)) text block block (Listing.Refused x)
+  unfolding listing-check _then_
   lists-refusal text block = record { answers = rw file-refused; leaves = rw file-refused }
 
 -- ---- a day
-module _ (file lent numbers : List ℕ) (day : Day) (are : AreBytes file) (R : reader.Answered file lent numbers (Reading.Read day)) where
-  is-read : (reader.check file (length lent) ≡ Accepted) × (day ≡ day-of file)
+module _ (file lent numbers : List ℕ) (day : Day) (R : ReadingAnswered file lent numbers (Reading.Read day)) where
+  is-read : (reading-check file (length lent) ≡ Accepted) × (day ≡ day-of file)
   is-read = told file lent numbers (Reading.Read day) R refl
 
   part-is : take (numbers-in (day .counts)) numbers ≡ tables file .numbers
-  part-is = taken-numbers file lent numbers (Reading.Read day) R refl are
+  part-is = taken-numbers file lent numbers (Reading.Read day) R refl
 
-  pub part-sound : sound day (take (numbers-in (day .counts)) numbers) ≡ Accepted
-  part-sound = rw (part-is, is-read .1) (day-accepted file (reads-day file lent numbers (Reading.Read day) R refl .accepted))
+  pub part-sound : Sound day (take (numbers-in (day .counts)) numbers)
+  part-sound = rw (part-is, is-read .1) (read-sound file (none file lent numbers (Reading.Read day) R refl))
 
   -- whatever text a listing makes of a day and its numbers
   pub lists-day : (text : Day → List ℕ → List ℕ) {block after : List ℕ} {listing : Listing}
-      → Listed Accepted (text day (take (numbers-in (day .counts)) numbers)) block after listing
-      → Listed (file-check (walked file)) (text (day-of file) (tables file .numbers)) block after listing
-  unfolding reader.check
+      → ListingAnswered Accepted (text day (take (numbers-in (day .counts)) numbers)) block after listing
+      → ListingAnswered (file-check (walked file)) (text (day-of file) (tables file .numbers)) block after listing
+  unfolding reading-check
   lists-day text L =
       let accepted = both-accepted (file-check (walked file)) _ (is-read .0) .0 in
       rw accepted (rw (part-is, is-read .1) at L)

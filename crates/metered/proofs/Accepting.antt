@@ -14,8 +14,9 @@ use Rattle.units.specs.Bound.{most-hour, most-backhaul}
 use Rattle.units.specs.Refusals.{within}
 use Rattle.units.proofs.Checks.{both-accepted, kept, all-within}
 use Rattle.metered.specs.declared.Side.{Side}
-use Rattle.metered.specs.Hours.{delivered, received, Within, Rows-within, rows-check}
-use Rattle.metered.specs.Singles.{side-check, sides-check, Backhaul-within}
+use Rattle.metered.specs.Hours.{delivered, received, hours-check}
+use Rattle.metered.specs.Private.{Within, Rows-within, Backhaul-within}
+use Rattle.metered.specs.Singles.{side-check, sides-check}
 
 -- past the last hour of a list a column has zeros
 pub every-hour : (hours : List ℕ) → ((hour : ℕ) → hour < length hours → col hours hour ≤ most-hour) → Within hours
@@ -37,8 +38,8 @@ both-within xs ys a b hour = go (decLt hour (length xs))
 pub hours-within : (hours : List ℕ) → within most-hour hours ≡ Check.Accepted → Within hours
 hours-within hours e = every-hour hours (all-within most-hour hours e)
 
-pub rows-within : (hours : List (List Megajoules)) → rows-check hours ≡ Check.Accepted → Rows-within hours
-unfolding rows-check
+pub rows-within : (hours : List (List Megajoules)) → hours-check hours ≡ Check.Accepted → Rows-within hours
+unfolding hours-check
 rows-within hours e =
     let both = both-accepted _ _ e in
     (hours-within (delivered hours) (both-accepted _ _ (both .0) .1), hours-within (received hours) (both .1))

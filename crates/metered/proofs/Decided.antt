@@ -7,15 +7,15 @@ use Rattle.units.specs.declared.refusal.Check.{Check}
 use Rattle.units.specs.Verdict.{of-check, Decided}
 use Rattle.units.proofs.Verdicts.{AllNumbered, none, _and_, kept-by, cleared-by, checked}
 use Rattle.metered.specs.declared.Side.{Side}
-use Rattle.metered.specs.Hours.{rows-check}
+use Rattle.metered.specs.Hours.{hours-check}
 use Rattle.metered.specs.Singles.{mdqs-check, side-check, sides-check}
 
-pub rows-numbered : (hours : List (List Megajoules)) → AllNumbered (rows-check hours)
-unfolding rows-check
+pub rows-numbered : (hours : List (List Megajoules)) → AllNumbered (hours-check hours)
+unfolding hours-check
 rows-numbered hours = none and cleared-by _ _ 3 tt tt and cleared-by _ _ 3 tt tt
 
-pub rows-decided : (hours : List (List Megajoules)) {found : Check} → found ≡ rows-check hours
-    → Decided (rows-check hours) tt tt (of-check found)
+pub rows-decided : (hours : List (List Megajoules)) {found : Check} → found ≡ hours-check hours
+    → Decided (hours-check hours) tt tt (of-check found)
 rows-decided hours = checked (rows-numbered hours)
 
 pub mdqs-numbered : (p m : Gigajoules) → AllNumbered (mdqs-check p m)

@@ -9,7 +9,7 @@ use lib.Seq.{sets, sets-eq, take-at}
 use Rattle.columns.specs.Column.{col, listed}
 use Rattle.columns.proofs.Lists.{Filling, filling-all, length-listed, listed-col, sets-append}
 use Rattle.units.specs.declared.Megajoules.{Megajoules}
-use Rattle.metered.specs.Hours.{figures, both-days}
+use Rattle.metered.specs.Hours.{bare-hours, both-days}
 
 -- a list is whole once its last hour is written
 whole : (start xs : List ℕ) → length start ≡ length xs → sets start 0 xs ≡ xs
@@ -28,47 +28,47 @@ pub filled : (start xs : List ℕ) (n : ℕ) {row : ℕ} {list : List ℕ} → l
 filled start xs n a b F h k = written start xs n b F h k ∙ whole start xs (a ∙ sym b)
 
 -- an hour's figure
-pub figure-at : (row : List Megajoules) (hour : ℕ) → (getD row hour (record { 0 = 0 })) .0 ≡ col (figures row) hour
+pub figure-at : (row : List Megajoules) (hour : ℕ) → (getD row hour (record { 0 = 0 })) .0 ≡ col (bare-hours row) hour
 figure-at row hour = sym (List·getD-map (λ x. x .0) row hour (record { 0 = 0 }))
 
-pub length-figures : (row : List Megajoules) → length (figures row) ≡ length row
+pub length-figures : (row : List Megajoules) → length (bare-hours row) ≡ length row
 length-figures row = length-map row (λ x. x .0)
 
 -- ---- yesterday's hours followed by today's
 module _ (yesterday today : List Megajoules) (eleven : length yesterday ≡ 11) where
   pub length-days : length today ≡ 24 → length (both-days yesterday today) ≡ 35
   length-days n =
-      length-append (figures yesterday) (figures today) ∙ omega (arith, length-figures yesterday, length-figures today)
+      length-append (bare-hours yesterday) (bare-hours today) ∙ omega (arith, length-figures yesterday, length-figures today)
 
-  pub first-days : take 11 (both-days yesterday today) ≡ figures yesterday
-  first-days = take-at (figures yesterday) (figures today) 11 (length-figures yesterday ∙ eleven)
+  pub first-days : take 11 (both-days yesterday today) ≡ bare-hours yesterday
+  first-days = take-at (bare-hours yesterday) (bare-hours today) 11 (length-figures yesterday ∙ eleven)
 
 -- a loop has written today's first hours behind yesterday's
 module _ (begun : List ℕ) (today : List Megajoules) where
   abbrev pub Following : ℕ → List ℕ → Type 0
-  Following hour hours = hours ≡ sets begun 11 (listed hour (col (figures today)))
+  Following hour hours = hours ≡ sets begun 11 (listed hour (col (bare-hours today)))
 
   pub following-none : Following 0 begun
   unfolding listed
   following-none = refl
 
-  pub following-next : (hour : ℕ) {hours : List ℕ} {figure : ℕ} → Following hour hours → figure ≡ col (figures today) hour
+  pub following-next : (hour : ℕ) {hours : List ℕ} {figure : ℕ} → Following hour hours → figure ≡ col (bare-hours today) hour
       → Following (hour + 1) (set hours (11 + hour) figure)
   unfolding listed
   following-next hour F e =
-      let done = listed hour (col (figures today)) in
-      rw (F, e, add-one) (sym (sets-append done (col (figures today) hour ∷ []) begun 11 ∙ rw length-listed))
+      let done = listed hour (col (bare-hours today)) in
+      rw (F, e, add-one) (sym (sets-append done (col (bare-hours today) hour ∷ []) begun 11 ∙ rw length-listed))
 
   pub following-all : (start : List ℕ) (yesterday : List Megajoules) {hour : ℕ} {hours : List ℕ} → Following hour hours
       → 24 ≤ hour → hour ≤ 24 → length yesterday ≡ 11 → length today ≡ 24 → length start ≡ 35
-      → begun ≡ sets start 0 (figures yesterday) → hours ≡ both-days yesterday today
+      → begun ≡ sets start 0 (bare-hours yesterday) → hours ≡ both-days yesterday today
   following-all start yesterday {hour} F k h eleven n room e =
-      let many : hour ≡ length (figures today) = omega (arith, length-figures today) in
-      let from : 11 ≡ 0 + length (figures yesterday) = omega (arith, length-figures yesterday) in
+      let many : hour ≡ length (bare-hours today) = omega (arith, length-figures today) in
+      let from : 11 ≡ 0 + length (bare-hours yesterday) = omega (arith, length-figures yesterday) in
       F
-      ∙ ap (λ m. sets begun 11 (listed m (col (figures today)))) many
-      ∙ ap (sets begun 11) (listed-col (figures today))
-      ∙ ap (λ m. sets begun m (figures today)) from
-      ∙ ap (λ l. sets l (0 + length (figures yesterday)) (figures today)) e
-      ∙ sym (sets-append (figures yesterday) (figures today) start 0)
+      ∙ ap (λ m. sets begun 11 (listed m (col (bare-hours today)))) many
+      ∙ ap (sets begun 11) (listed-col (bare-hours today))
+      ∙ ap (λ m. sets begun m (bare-hours today)) from
+      ∙ ap (λ l. sets l (0 + length (bare-hours yesterday)) (bare-hours today)) e
+      ∙ sym (sets-append (bare-hours yesterday) (bare-hours today) start 0)
       ∙ whole start (both-days yesterday today) (room ∙ sym (length-days yesterday today eleven n))

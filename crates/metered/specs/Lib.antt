@@ -1,2 +1,3 @@
 pub mod Hours
 pub mod Singles
+pub mod Private

@@ -1,5 +1,4 @@
 -- The single figures of a shipper's day: 3 at place 0 where one is beyond its bound.
-use Prim.Native.Nat.{_≤_}
 use lib.Dec.{leb}
 use Rattle.units.specs.declared.Gigajoules.{Gigajoules}
 use Rattle.units.specs.declared.refusal.Check.{Check}
@@ -22,7 +21,3 @@ side-check side =
 -- receipt, then delivery
 unfoldable pub sides-check : Side → Side → Check
 sides-check receipt delivery = side-check receipt then side-check delivery
-
--- the backhaul metered of both sides is within its bound
-abbrev pub Backhaul-within : Side → Side → Type 0
-Backhaul-within receipt delivery = (receipt .metered .0 ≤ most-backhaul) × (delivery .metered .0 ≤ most-backhaul)

@@ -4,11 +4,11 @@ use units::Megajoules;
 ghost use mathlib.Core.Path.{_≡_};
 ghost use lib.ListN.{replicate};
 ghost use lib.Seq.{sets};
-ghost use Rattle.metered.specs.Hours.{figures, both-days, rows-check};
+ghost use Rattle.metered.specs.Hours.{bare-hours, both-days, hours-check};
 
-// The figures of a row of 24 hours.
-pub fn figures(row: [Megajoules; 24]) -> [u64; 24]
-    ensures { λ r. ⌜ r ≡ figures row ⌝ }
+// The bare numbers of a row of 24 hours.
+pub fn bare_hours(row: [Megajoules; 24]) -> [u64; 24]
+    ensures { λ r. ⌜ r ≡ bare-hours row ⌝ }
 {
     let mut numbers = [0u64; 24];
     for hour in 0..24usize {
@@ -19,7 +19,7 @@ pub fn figures(row: [Megajoules; 24]) -> [u64; 24]
 
 // Yesterday's 11 hours, with room for today's 24. Each day is copied in a loop of its own: choosing the day hour by hour costs more.
 fn days_begun(yesterday: [Megajoules; 11]) -> [u64; 35]
-    ensures { λ r. ⌜ r ≡ sets (replicate 35 0) 0 (figures yesterday) ⌝ }
+    ensures { λ r. ⌜ r ≡ sets (replicate 35 0) 0 (bare-hours yesterday) ⌝ }
 {
     let mut hours = [0u64; 35];
     for hour in 0..11usize {
@@ -40,11 +40,11 @@ pub fn both_days(yesterday: [Megajoules; 11], today: [Megajoules; 24]) -> [u64; 
 }
 
 // Whether both sides' hours are within their bound, delivered first.
-pub fn examine_rows(hours: [[Megajoules; 24]; 2]) -> Check
-    ensures { λ r. ⌜ r ≡ rows-check hours ⌝ }
+pub fn examine_hours(hours: [[Megajoules; 24]; 2]) -> Check
+    ensures { λ r. ⌜ r ≡ hours-check hours ⌝ }
 {
-    let delivered = figures(hours[0]);
-    let received = figures(hours[1]);
+    let delivered = bare_hours(hours[0]);
+    let received = bare_hours(hours[1]);
     Check::Accepted
         .megajoules_within(&delivered, MOST_HOUR)
         .megajoules_within(&received, MOST_HOUR)

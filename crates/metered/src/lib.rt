@@ -2,9 +2,9 @@
 mod hours;
 mod singles;
 
+pub use hours::bare_hours;
 pub use hours::both_days;
-pub use hours::examine_rows;
-pub use hours::figures;
+pub use hours::examine_hours;
 pub use singles::examine_mdqs;
 pub use singles::examine_sides;
 use units::Gigajoules;

@@ -16,23 +16,22 @@ use Rattle.dayformat.specs.declared.form.Tag.the-variants.{Shipper}
 use Rattle.dayformat.specs.declared.layout.Counts.{Counts}
 use Rattle.dayformat.specs.Layout.{count}
 use Rattle.dayvalues.specs.declared.column.ShipperColumn.{ShipperColumn}
-use Rattle.dayvalues.specs.declared.column.Listed.{Listed}
-use Rattle.dayvalues.specs.Column.{place-of, column, with-column}
-use Rattle.dayvalues.specs.Column as values
+use Rattle.dayvalues.specs.declared.column.ColumnRows.{ColumnRows}
+use Rattle.dayvalues.specs.Column.{ColumnAnswered, column, column-check, place-of, with-column}
 use Rattle.dayvalues.proofs.Accepting.{column-accepted}
 use Rattle.numbershares.specs.DayTable.{table-of}
-use Rattle.numbershares.specs.Leaves.{columns-check, figures-check}
+use Rattle.numbershares.specs.Private.{columns-check, early-check}
 
 -- ---- acceptance of all is acceptance of each
 pub record EachAccepted (counts : Counts) (numbers : List ℕ) : Type 0 where
-  pub one : values.check counts numbers 1 most-rows ≡ Check.Accepted
-  pub two : values.check counts numbers 2 most-rows ≡ Check.Accepted
-  pub three : values.check counts numbers 3 most-rows ≡ Check.Accepted
-  pub four : values.check counts numbers 4 most-rows ≡ Check.Accepted
-  pub five : values.check counts numbers 5 most-rows ≡ Check.Accepted
+  pub one : column-check counts numbers 1 most-rows ≡ Check.Accepted
+  pub two : column-check counts numbers 2 most-rows ≡ Check.Accepted
+  pub three : column-check counts numbers 3 most-rows ≡ Check.Accepted
+  pub four : column-check counts numbers 4 most-rows ≡ Check.Accepted
+  pub five : column-check counts numbers 5 most-rows ≡ Check.Accepted
 
-pub each-accepted : (day : Day) (numbers : List ℕ) → figures-check day numbers ≡ Check.Accepted → EachAccepted (day .counts) numbers
-unfolding figures-check columns-check
+pub each-accepted : (day : Day) (numbers : List ℕ) → early-check day numbers ≡ Check.Accepted → EachAccepted (day .counts) numbers
+unfolding early-check columns-check
 each-accepted day numbers e =
     let five = both-accepted _ _ (both-accepted _ _ e .1) in
     let four = both-accepted _ _ (five .0) in
@@ -51,9 +50,9 @@ few-rows counts numbers E =
     )
 
 -- ---- a column laid into zeros
-pub column-had : (counts : Counts) (numbers : List ℕ) (which : ShipperColumn) {rows : Listed} {after : List ℕ}
-    → values.Answered counts numbers which (replicate most-rows 0) rows after
-    → values.check counts numbers (place-of which) most-rows ≡ Check.Accepted
+pub column-had : (counts : Counts) (numbers : List ℕ) (which : ShipperColumn) {rows : ColumnRows} {after : List ℕ}
+    → ColumnAnswered counts numbers which (replicate most-rows 0) rows after
+    → column-check counts numbers (place-of which) most-rows ≡ Check.Accepted
     → after ≡ with-column counts (col numbers) (place-of which) (replicate most-rows 0)
 column-had counts numbers which A e =
     let long = length-replicate {A = ℕ} most-rows 0 in

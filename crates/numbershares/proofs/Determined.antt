@@ -5,10 +5,10 @@ use Prim.Native.Nat.{ℕ}
 use Rattle.units.proofs.Determined.{determined}
 use Rattle.dayshares.specs.declared.Day.{Day as DayShares}
 use Rattle.dayformat.specs.declared.day.Day.{Day}
-use Rattle.numbershares.specs.Answer.{Answered}
+use Rattle.numbershares.specs.Answer.{NumbersAnswered}
 
 pub numbers-determined : {day : Day} {numbers firm auction lower-tier : List ℕ} {d₁ d₂ : DayShares} {f₁ f₂ a₁ a₂ l₁ l₂ : List ℕ}
-    → Answered day numbers firm auction lower-tier d₁ f₁ a₁ l₁ → Answered day numbers firm auction lower-tier d₂ f₂ a₂ l₂
+    → NumbersAnswered day numbers firm auction lower-tier d₁ f₁ a₁ l₁ → NumbersAnswered day numbers firm auction lower-tier d₂ f₂ a₂ l₂
     → (d₁ ≡ d₂) × (f₁ ≡ f₂) × (a₁ ≡ a₂) × (l₁ ≡ l₂)
 numbers-determined a b = (
   determined (a .answers) (b .answers),

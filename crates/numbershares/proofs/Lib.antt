@@ -3,3 +3,4 @@ pub mod Tables
 pub mod Answers
 pub mod Decided
 pub mod Determined
+pub mod SharesAccept

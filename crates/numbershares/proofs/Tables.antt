@@ -15,8 +15,7 @@ use Rattle.units.specs.Bound.{most-gigajoules, most-rows}
 use Rattle.units.specs.Refusals.{_then_, keep, clear, within}
 use Rattle.units.proofs.Checks.{both-accepted, accepts-both, accepts-kept}
 use Rattle.daytable.specs.Table.{Table, rows}
-use Rattle.daytable.specs.Acceptance.{lengths, figures}
-use Rattle.daytable.specs.Acceptance as table
+use Rattle.daytable.specs.Acceptance.{bounds-check, lengths-check, table-check}
 use Rattle.dayformat.specs.declared.day.Day.{Day}
 use Rattle.dayformat.specs.declared.form.Tag.the-variants.{Shipper}
 use Rattle.dayformat.specs.Format.{name, gigajoules, _of_}
@@ -25,12 +24,11 @@ use Rattle.dayformat.specs.Acceptance.{counts-check}
 use Rattle.dayformat.proofs.Accepting.{counts-accepted}
 use Rattle.dayformat.proofs.Bodies.{among}
 use Rattle.dayvalues.specs.Row.{beyond}
-use Rattle.dayvalues.specs.Column.{column, first-beyond}
-use Rattle.dayvalues.specs.Column as values
+use Rattle.dayvalues.specs.Column.{column, column-check, first-beyond}
 use Rattle.dayvalues.proofs.Bounds.{beyond-gigajoules}
 use Rattle.numbershares.specs.DayTable.{table-of}
-use Rattle.numbershares.specs.Answer.{check}
-use Rattle.numbershares.specs.Leaves.{columns-check, figures-check}
+use Rattle.numbershares.specs.Answer.{numbers-check}
+use Rattle.numbershares.specs.Private.{columns-check, early-check}
 
 -- ---- chains of tests
 then-accepted : (a : Check) → (a then Accepted) ≡ a
@@ -60,8 +58,8 @@ module _ (day : Day) (numbers : ℕ → ℕ) where
   list place = listed many (column (day .counts) numbers place)
 
   -- the columns of the table that they make are as long as one another
-  pub table-long : lengths (table-of day numbers) ≡ Accepted
-  unfolding lengths
+  pub table-long : lengths-check (table-of day numbers) ≡ Accepted
+  unfolding lengths-check
   table-long =
       accepts-both (accepts-both (accepts-both (accepts-both refl (as-long 2)) (as-long 3)) (as-long 4)) (as-long 5)
     where
@@ -99,8 +97,8 @@ module _ (day : Day) (numbers : List ℕ) where
     few-rows : many day (col numbers) ≤ most-rows
     few-rows = counts-accepted (day .counts) (both-accepted _ _ accepted .1) Shipper
 
-    column-is : (place : ℕ) → 1 ≤ place → place < 6 → values.check (day .counts) numbers place most-rows ≡ tested place
-    unfolding values.check _then_
+    column-is : (place : ℕ) → 1 ≤ place → place < 6 → column-check (day .counts) numbers place most-rows ≡ tested place
+    unfolding column-check _then_
     column-is place h l =
         rw (accepted, accepts-kept 7 (le-leb _ most-rows few-rows)) (then-accepted _ ∙ rows-within day (col numbers) place h l)
 
@@ -116,8 +114,8 @@ module _ (day : Day) (numbers : List ℕ) where
           column-is 5 (omega arith) (omega arith),
         )
 
-    figures-are : (free-flow then compressor then columns-check (day .counts) numbers) ≡ figures T
-    unfolding figures
+    figures-are : (free-flow then compressor then columns-check (day .counts) numbers) ≡ bounds-check T
+    unfolding bounds-check
     figures-are =
         rw (columns-are, few-kept)
         (grouped free-flow compressor (tested 1) (tested 2) (tested 3) (tested 4) (tested 5))
@@ -127,16 +125,17 @@ module _ (day : Day) (numbers : List ℕ) where
 
   -- tested again by the table, they change nothing
   module _ (firm auction lower-tier : ℕ) where
-    figures-again : (figures T then table.check T firm auction lower-tier) ≡ table.check T firm auction lower-tier
-    unfolding table.check
-    figures-again = rw (table-long day (col numbers)) (again (figures T) _ _ _ _ _)
+    figures-again : (bounds-check T then table-check T firm auction lower-tier) ≡ table-check T firm auction lower-tier
+    unfolding table-check
+    figures-again = rw (table-long day (col numbers)) (again (bounds-check T) _ _ _ _ _)
 
-    pub figures-first : (figures-check day numbers then table.check T firm auction lower-tier) ≡ check day numbers firm auction lower-tier
-    unfolding figures-check check _then_
+    pub figures-first : (early-check day numbers then table-check T firm auction lower-tier)
+        ≡ numbers-check day numbers firm auction lower-tier
+    unfolding early-check numbers-check _then_
     figures-first = by counted refl
       where
         by : (c : Check) → counted ≡ c
-            → (c then free-flow then compressor then columns-check (day .counts) numbers then table.check T firm auction lower-tier)
-            ≡ (c then table.check T firm auction lower-tier)
+            → (c then free-flow then compressor then columns-check (day .counts) numbers then table-check T firm auction lower-tier)
+            ≡ (c then table-check T firm auction lower-tier)
         by (Refused x) e = refl
-        by Accepted e = ap (λ found. found then table.check T firm auction lower-tier) (figures-are e) ∙ figures-again
+        by Accepted e = ap (λ found. found then table-check T firm auction lower-tier) (figures-are e) ∙ figures-again

@@ -1,3 +1,3 @@
 pub mod DayTable
 pub mod Answer
-pub mod Leaves
+pub mod Private

@@ -14,11 +14,11 @@ ghost use lib.ListN.{replicate};
 ghost use Rattle.columns.specs.Column.{col};
 ghost use Rattle.units.specs.Bound.{most-rows};
 ghost use Rattle.units.specs.declared.refusal.Check.the-variants.{Accepted};
-ghost use Rattle.dayshares.specs.Answer as dayshares;
-ghost use Rattle.dayvalues.specs.Column.{place-of, check, with-column};
+ghost use Rattle.dayshares.specs.Answer.{SharesAnswered};
+ghost use Rattle.dayvalues.specs.Column.{place-of, column-check, with-column};
 ghost use Rattle.numbershares.specs.DayTable.{table-of};
-ghost use Rattle.numbershares.specs.Answer.{Answered};
-ghost use Rattle.numbershares.specs.Leaves.{columns-check, figures-check};
+ghost use Rattle.numbershares.specs.Answer.{NumbersAnswered};
+ghost use Rattle.numbershares.specs.Private.{columns-check, early-check};
 
 // The first test that one of the five columns fails, in tag 2's order.
 fn check_columns(counts: Counts, numbers: &[usize]) -> Check
@@ -33,7 +33,7 @@ fn check_columns(counts: Counts, numbers: &[usize]) -> Check
 
 // 9 and 3: the counts and the capacities, which are single figures, come before the rows of any column.
 fn check_figures(day: Day, numbers: &[usize]) -> Check
-    ensures { λ r. ⌜ r ≡ figures-check day (now (numbers .entry)) ⌝ }
+    ensures { λ r. ⌜ r ≡ early-check day (now (numbers .entry)) ⌝ }
 {
     let head = day.head;
     let counts = day.counts;
@@ -47,7 +47,7 @@ fn check_figures(day: Day, numbers: &[usize]) -> Check
 
 // A column of gigajoules, zeros past its rows.
 fn column_of(counts: Counts, numbers: &[usize], which: ShipperColumn) -> [u32; 64]
-    requires { ⌜ check counts (now numbers) (place-of which) most-rows ≡ Accepted ⌝ }
+    requires { ⌜ column-check counts (now numbers) (place-of which) most-rows ≡ Accepted ⌝ }
     ensures { λ r. ⌜ r ≡ with-column counts (col (now (numbers .entry))) (place-of which) (replicate most-rows 0) ⌝ }
 {
     let mut column = [0u32; MOST_ROWS];
@@ -63,8 +63,8 @@ fn share_columns(
     auction: &mut [u32],
     lower_tier: &mut [u32],
 ) -> dayshares::Day
-    requires { ⌜ figures-check day (now numbers) ≡ Accepted ⌝ }
-    ensures { λ r. ⌜ dayshares.Answered (table-of day (col (now (numbers .entry))))
+    requires { ⌜ early-check day (now numbers) ≡ Accepted ⌝ }
+    ensures { λ r. ⌜ SharesAnswered (table-of day (col (now (numbers .entry))))
         (now (firm .entry)) (now (auction .entry)) (now («lower_tier» .entry))
         r
         (now (firm .exit)) (now (auction .exit)) (now («lower_tier» .exit)) ⌝ }
@@ -99,7 +99,7 @@ pub fn share_numbers(
     auction: &mut [u32],
     lower_tier: &mut [u32],
 ) -> dayshares::Day
-    ensures { λ r. ⌜ Answered day (now (numbers .entry))
+    ensures { λ r. ⌜ NumbersAnswered day (now (numbers .entry))
         (now (firm .entry)) (now (auction .entry)) (now («lower_tier» .entry))
         r
         (now (firm .exit)) (now (auction .exit)) (now («lower_tier» .exit)) ⌝ }

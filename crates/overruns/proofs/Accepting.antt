@@ -9,8 +9,8 @@ use Rattle.units.specs.declared.Megajoules.{Megajoules}
 use Rattle.units.specs.declared.refusal.Check.{Check}
 use Rattle.units.proofs.Checks.{both-accepted, kept}
 use Rattle.metered.specs.declared.Side.{Side}
-use Rattle.metered.specs.Hours.{figures, delivered, Within, Rows-within}
-use Rattle.metered.specs.Singles.{Backhaul-within}
+use Rattle.metered.specs.Hours.{bare-hours, delivered}
+use Rattle.metered.specs.Private.{Within, Rows-within, Backhaul-within}
 use Rattle.metered.proofs.Accepting.{both-within, hours-within, rows-within, backhaul-within}
 use Rattle.overruns.specs.Hourly.{hourly-check}
 use Rattle.overruns.specs.TwelveHourly.{twelve-hourly-check}
@@ -36,7 +36,7 @@ daily-accepting hours receipt delivery e =
     let both = both-accepted _ _ e in (rows-within hours (both .1), backhaul-within receipt delivery (both .0))
 
 pub record DayAccepting (D : ShipperDay) : Type 0 where
-  pub both-days : Within (figures (D .yesterday) ++ delivered (D .hours))
+  pub both-days : Within (bare-hours (D .yesterday) ++ delivered (D .hours))
   pub rows : Rows-within (D .hours)
   pub backhaul : Backhaul-within (D .receipt) (D .delivery)
 
@@ -47,9 +47,9 @@ day-accepting D e =
     let yesterday = both-accepted _ _ (today .0) in
     let sides = both-accepted _ _ (yesterday .0) in
     let rows = rows-within (D .hours) (today .1) in
-    let first = hours-within (figures (D .yesterday)) (yesterday .1) in
+    let first = hours-within (bare-hours (D .yesterday)) (yesterday .1) in
     record {
-      both-days = both-within (figures (D .yesterday)) (delivered (D .hours)) first (rows .0);
+      both-days = both-within (bare-hours (D .yesterday)) (delivered (D .hours)) first (rows .0);
       rows = rows;
       backhaul = backhaul-within (D .receipt) (D .delivery) (sides .1);
     }

@@ -7,16 +7,16 @@ use Rattle.units.specs.declared.refusal.Check.{Check}
 use Rattle.overruns.specs.declared.Overrun.{Overrun}
 use Rattle.overruns.specs.declared.daily.Daily.{Daily}
 use Rattle.overruns.specs.declared.daily.DailyOverruns.{DailyOverruns}
-use Rattle.overruns.specs.Answers.{over-where}
+use Rattle.overruns.specs.Answers.{overrun-answer}
 use Rattle.overruns.specs.Daily.{daily-where}
 
 -- one overrun
 module _ (check : Check) (over : ℕ) where
-  pub over-refused : {x : Refusal} → check ≡ Check.Refused x → Overrun.Refused x ≡ over-where check (record { 0 = over })
+  pub over-refused : {x : Refusal} → check ≡ Check.Refused x → Overrun.Refused x ≡ overrun-answer check (record { 0 = over })
   over-refused e = rw e
 
   pub over-accepted : {x : Megajoules} → check ≡ Check.Accepted → x .0 ≡ over
-      → Overrun.Over x ≡ over-where check (record { 0 = over })
+      → Overrun.Over x ≡ overrun-answer check (record { 0 = over })
   over-accepted e g = rw (e, ← g)
 
 -- both daily overruns

@@ -10,7 +10,7 @@ use Rattle.units.specs.declared.Megajoules.{Megajoules}
 use Rattle.units.specs.Unit.{thousandfold}
 use Rattle.units.specs.Bound.{most-hour, most-backhaul}
 use Rattle.metered.specs.declared.Side.{Side}
-use Rattle.metered.specs.Hours.{Within}
+use Rattle.metered.specs.Private.{Within}
 use Rattle.excesses.proofs.Excesses.{gas-most}
 use Rattle.overruns.specs.Daily.{daily, most-daily}
 

@@ -15,11 +15,11 @@ use Rattle.excesses.specs.TwelveHourly.{twelve-hourly}
 use Rattle.overruns.specs.declared.Overrun.{Overrun}
 use Rattle.overruns.specs.declared.daily.DailyOverruns.{DailyOverruns}
 use Rattle.overruns.specs.declared.day.DayOverruns.{DayOverruns}
-use Rattle.overruns.specs.Answers.{over-where, verdict}
+use Rattle.overruns.specs.Answers.{overrun-answer, overrun-verdict}
 use Rattle.overruns.specs.Hourly.{hourly-check, hourly-answer}
 use Rattle.overruns.specs.TwelveHourly.{twelve-hourly-check, twelve-hourly-answer}
-use Rattle.overruns.specs.Daily.{both-daily, daily-check, daily-where, daily-answer, verdict as daily-verdict}
-use Rattle.overruns.specs.Day.{ShipperDay, day-overruns, day-check, day-where, day-answer, verdict as day-verdict}
+use Rattle.overruns.specs.Daily.{both-daily, daily-check, daily-where, daily-answer, daily-verdict}
+use Rattle.overruns.specs.Day.{ShipperDay, day-overruns, day-check, day-where, day-answer, day-verdict}
 
 module _ (m : Gigajoules) (hours : List (List Megajoules)) where
   pub hourly-numbered : AllNumbered (hourly-check m hours)
@@ -28,8 +28,8 @@ module _ (m : Gigajoules) (hours : List (List Megajoules)) where
 
   pub hourly-decided : {over : Overrun} → over ≡ hourly-answer m hours
       → Decided (hourly-check m hours) (record { 0 = hourly (m .0) (col (delivered hours)) (col (received hours)) }) (record { 0 = 0 })
-      (verdict over)
-  hourly-decided = decided over-where verdict refl (λ refusal. refl) hourly-numbered
+      (overrun-verdict over)
+  hourly-decided = decided overrun-answer overrun-verdict refl (λ refusal. refl) hourly-numbered
 
 module _ (p m : Gigajoules) (hours : List ℕ) where
   pub twelve-hourly-numbered : AllNumbered (twelve-hourly-check p m hours)
@@ -37,8 +37,9 @@ module _ (p m : Gigajoules) (hours : List ℕ) where
   twelve-hourly-numbered = none and kept-by _ 9 tt tt and mdqs-numbered p m and cleared-by _ _ 3 tt tt
 
   pub twelve-hourly-decided : {over : Overrun} → over ≡ twelve-hourly-answer p m hours
-      → Decided (twelve-hourly-check p m hours) (record { 0 = twelve-hourly (p .0) (m .0) (col hours) }) (record { 0 = 0 }) (verdict over)
-  twelve-hourly-decided = decided over-where verdict refl (λ refusal. refl) twelve-hourly-numbered
+      → Decided (twelve-hourly-check p m hours) (record { 0 = twelve-hourly (p .0) (m .0) (col hours) }) (record { 0 = 0 })
+      (overrun-verdict over)
+  twelve-hourly-decided = decided overrun-answer overrun-verdict refl (λ refusal. refl) twelve-hourly-numbered
 
 module _ (hours : List (List Megajoules)) (receipt delivery : Side) where
   pub daily-numbered : AllNumbered (daily-check hours receipt delivery)

@@ -8,7 +8,7 @@ use lib.Seq.{getD-take, getD-drop}
 use Rattle.columns.specs.Column.{col}
 use Rattle.columns.specs.Sum.{sum}
 use Rattle.columns.proofs.Sums.{sum-cong}
-use Rattle.metered.specs.Hours.{Within}
+use Rattle.metered.specs.Private.{Within}
 use Rattle.metered.proofs.Accepting.{every-hour}
 use Rattle.excesses.specs.TwelveHourly.{period-gas}
 

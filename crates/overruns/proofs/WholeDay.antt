@@ -4,8 +4,8 @@ use mathlib.Core.List.{List, _++_}
 use Prim.Native.Nat.{ℕ}
 use Rattle.units.specs.declared.refusal.Refusal.{Refusal}
 use Rattle.units.specs.declared.refusal.Check.{Check}
-use Rattle.metered.specs.Hours.{figures, delivered, Within, Rows-within}
-use Rattle.metered.specs.Singles.{Backhaul-within}
+use Rattle.metered.specs.Hours.{bare-hours, delivered}
+use Rattle.metered.specs.Private.{Within, Rows-within, Backhaul-within}
 use Rattle.excesses.specs.Greatest.{greatest}
 use Rattle.overruns.specs.declared.day.Overruns.{Overruns}
 use Rattle.overruns.specs.declared.day.DayOverruns.{DayOverruns}
@@ -16,7 +16,7 @@ use Rattle.overruns.proofs.Accepting.{day-accepting}
 pub record Tested : Type 0 where
   pub D : ShipperDay
   pub both : List ℕ
-  pub joined : both ≡ figures (D .yesterday) ++ delivered (D .hours)
+  pub joined : both ≡ bare-hours (D .yesterday) ++ delivered (D .hours)
   pub found : Check
   pub checked : found ≡ day-check D
 

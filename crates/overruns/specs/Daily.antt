@@ -9,7 +9,7 @@ use Rattle.units.specs.Refusals.{_then_}
 use Rattle.units.specs.Verdict.{Verdict, accepting, refusing}
 use Rattle.metered.specs.declared.Side.{Side}
 use Rattle.metered.specs.Singles.{sides-check}
-use Rattle.metered.specs.Hours.{delivered, received, rows-check}
+use Rattle.metered.specs.Hours.{delivered, received, hours-check}
 use Rattle.overruns.specs.declared.daily.Daily.{Daily}
 use Rattle.overruns.specs.declared.daily.DailyOverruns.{DailyOverruns}
 
@@ -28,7 +28,7 @@ both-daily delivered received receipt delivery =
 
 -- single figures, then the hours
 unfoldable pub daily-check : List (List Megajoules) → Side → Side → Check
-daily-check hours receipt delivery = sides-check receipt delivery then rows-check hours
+daily-check hours receipt delivery = sides-check receipt delivery then hours-check hours
 
 abbrev pub daily-where : Check → Daily → DailyOverruns
 daily-where Check.Accepted over = DailyOverruns.Over over
@@ -39,6 +39,6 @@ daily-answer hours receipt delivery =
     daily-where (daily-check hours receipt delivery) (both-daily (delivered hours) (received hours) receipt delivery)
 
 -- 01's number, place and figures of each case
-abbrev pub verdict : DailyOverruns → Verdict Daily
-verdict (DailyOverruns.Over over) = accepting over
-verdict (DailyOverruns.Refused x) = refusing x (record { receipt = record { 0 = 0 }; delivery = record { 0 = 0 } })
+abbrev pub daily-verdict : DailyOverruns → Verdict Daily
+daily-verdict (DailyOverruns.Over over) = accepting over
+daily-verdict (DailyOverruns.Refused x) = refusing x (record { receipt = record { 0 = 0 }; delivery = record { 0 = 0 } })

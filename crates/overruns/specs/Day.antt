@@ -10,7 +10,7 @@ use Rattle.units.specs.Refusals.{_then_, within}
 use Rattle.units.specs.Verdict.{Verdict, accepting, refusing}
 use Rattle.metered.specs.declared.Side.{Side}
 use Rattle.metered.specs.Singles.{mdqs-check, sides-check}
-use Rattle.metered.specs.Hours.{figures, delivered, received, rows-check}
+use Rattle.metered.specs.Hours.{bare-hours, delivered, received, hours-check}
 use Rattle.excesses.specs.Hourly.{hourly}
 use Rattle.excesses.specs.TwelveHourly.{twelve-hourly}
 use Rattle.excesses.specs.Greatest.{greatest}
@@ -43,7 +43,8 @@ with-greatest hourly twelve-hourly receipt delivery = record {
   greatest = record { 0 = greatest hourly twelve-hourly receipt delivery };
 }
 
--- hourly and twelve-hourly from the hours compared with their limits, daily from the hours metered
+-- hourly and twelve-hourly overruns count the hours compared with their limits, daily ones the hours metered: two arguments, since
+-- the Terms may excuse an hour from a limit (cl. 5.4) and never from the day's total; the house rule excuses nothing (`all-compared`)
 abbrev pub overruns : ℕ → ℕ → Hours → Hours → Side → Side → Overruns
 overruns p m compared metered receipt delivery =
     with-greatest
@@ -60,8 +61,8 @@ unfoldable pub day-check : ShipperDay → Check
 day-check D =
     mdqs-check (D .p) (D .m)
     then sides-check (D .receipt) (D .delivery)
-    then within most-hour (figures (D .yesterday))
-    then rows-check (D .hours)
+    then within most-hour (bare-hours (D .yesterday))
+    then hours-check (D .hours)
 
 abbrev pub day-where : Check → Overruns → DayOverruns
 day-where Check.Accepted over = DayOverruns.Over over
@@ -74,12 +75,12 @@ all-compared p m both-days hours receipt delivery =
 
 abbrev pub day-overruns : ShipperDay → Overruns
 day-overruns D =
-    all-compared (D .p) (D .m) (figures (D .yesterday) ++ delivered (D .hours)) (D .hours) (D .receipt) (D .delivery)
+    all-compared (D .p) (D .m) (bare-hours (D .yesterday) ++ delivered (D .hours)) (D .hours) (D .receipt) (D .delivery)
 
 abbrev pub day-answer : ShipperDay → DayOverruns
 day-answer D = day-where (day-check D) (day-overruns D)
 
 -- 01's number, place and figures of each case
-abbrev pub verdict : DayOverruns → Verdict Overruns
-verdict (DayOverruns.Over over) = accepting over
-verdict (DayOverruns.Refused x) = refusing x (with-greatest 0 0 0 0)
+abbrev pub day-verdict : DayOverruns → Verdict Overruns
+day-verdict (DayOverruns.Over over) = accepting over
+day-verdict (DayOverruns.Refused x) = refusing x (with-greatest 0 0 0 0)

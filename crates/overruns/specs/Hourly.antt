@@ -7,15 +7,15 @@ use Rattle.units.specs.declared.Megajoules.{Megajoules}
 use Rattle.units.specs.declared.refusal.Check.{Check}
 use Rattle.units.specs.Bound.{most-gigajoules}
 use Rattle.units.specs.Refusals.{_then_, keep}
-use Rattle.metered.specs.Hours.{delivered, received, rows-check}
+use Rattle.metered.specs.Hours.{delivered, received, hours-check}
 use Rattle.excesses.specs.Hourly.{hourly}
 use Rattle.overruns.specs.declared.Overrun.{Overrun}
-use Rattle.overruns.specs.Answers.{over-where}
+use Rattle.overruns.specs.Answers.{overrun-answer}
 
 -- M, then the hours
 unfoldable pub hourly-check : Gigajoules → List (List Megajoules) → Check
-hourly-check m hours = Check.Accepted then keep (leb (m .0) most-gigajoules) 3 then rows-check hours
+hourly-check m hours = Check.Accepted then keep (leb (m .0) most-gigajoules) 3 then hours-check hours
 
 abbrev pub hourly-answer : Gigajoules → List (List Megajoules) → Overrun
 hourly-answer m hours =
-    over-where (hourly-check m hours) (record { 0 = hourly (m .0) (col (delivered hours)) (col (received hours)) })
+    overrun-answer (hourly-check m hours) (record { 0 = hourly (m .0) (col (delivered hours)) (col (received hours)) })

@@ -4,3 +4,4 @@ pub mod Daily
 pub mod TwelveHourly
 pub mod Day
 pub mod Promise
+pub mod Private

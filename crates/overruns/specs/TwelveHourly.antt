@@ -11,7 +11,7 @@ use Rattle.units.specs.Refusals.{_then_, keep, within}
 use Rattle.metered.specs.Singles.{mdqs-check}
 use Rattle.excesses.specs.TwelveHourly.{twelve-hourly}
 use Rattle.overruns.specs.declared.Overrun.{Overrun}
-use Rattle.overruns.specs.Answers.{over-where}
+use Rattle.overruns.specs.Answers.{overrun-answer}
 
 -- the list's length, P, M, the hours
 unfoldable pub twelve-hourly-check : Gigajoules → Gigajoules → List ℕ → Check
@@ -20,4 +20,4 @@ twelve-hourly-check p m hours =
 
 abbrev pub twelve-hourly-answer : Gigajoules → Gigajoules → List ℕ → Overrun
 twelve-hourly-answer p m hours =
-    over-where (twelve-hourly-check p m hours) (record { 0 = twelve-hourly (p .0) (m .0) (col hours) })
+    overrun-answer (twelve-hourly-check p m hours) (record { 0 = twelve-hourly (p .0) (m .0) (col hours) })

@@ -1,9 +1,9 @@
 use crate::gas::excess;
 use crate::gas::gas_of;
 use metered::Side;
-use metered::examine_rows;
+use metered::bare_hours;
+use metered::examine_hours;
 use metered::examine_sides;
-use metered::figures;
 use units::Check;
 use units::Megajoules;
 use units::Refusal;
@@ -12,8 +12,8 @@ ghost use mathlib.Core.Path.{_≡_};
 ghost use Prim.Native.Nat.{_≤_};
 ghost use Rattle.columns.specs.Column.{col};
 ghost use Rattle.units.specs.Bound.{most-backhaul};
-ghost use Rattle.metered.specs.Hours.{figures, delivered, received, Within, Rows-within};
-ghost use Rattle.metered.specs.Singles.{Backhaul-within};
+ghost use Rattle.metered.specs.Hours.{bare-hours, delivered, received};
+ghost use Rattle.metered.specs.Private.{Within, Rows-within, Backhaul-within};
 ghost use Rattle.overruns.specs.Daily.{daily, both-daily, daily-answer};
 
 // The daily overruns of both sides.
@@ -30,10 +30,10 @@ pub enum DailyOverruns {
 
 // The gas metered on a side over the day, backhaul included, above its schedules.
 fn above_schedules(row: [Megajoules; 24], side: Side) -> Megajoules
-    requires { ⌜ Within (figures row) × (side .metered .0 ≤ most-backhaul) ⌝ }
-    ensures { λ r. ⌜ r .0 ≡ daily (col (figures row)) side ⌝ }
+    requires { ⌜ Within (bare-hours row) × (side .metered .0 ≤ most-backhaul) ⌝ }
+    ensures { λ r. ⌜ r .0 ≡ daily (col (bare-hours row)) side ⌝ }
 {
-    let hours = figures(row);
+    let hours = bare_hours(row);
     let metered = gas_of(&hours).0 + side.metered.0;
     let scheduled = in_megajoules(side.forward).0 + in_megajoules(side.backhaul).0;
     excess(Megajoules(metered), Megajoules(scheduled))
@@ -56,7 +56,7 @@ pub fn both_daily(hours: [[Megajoules; 24]; 2], receipt: Side, delivery: Side) -
 pub fn daily_overruns(hours: [[Megajoules; 24]; 2], receipt: Side, delivery: Side) -> DailyOverruns
     ensures { λ r. ⌜ r ≡ daily-answer hours receipt delivery ⌝ }
 {
-    let found = examine_sides(receipt, delivery).then(examine_rows(hours));
+    let found = examine_sides(receipt, delivery).then(examine_hours(hours));
     match found {
         Check::Refused(refusal) => DailyOverruns::Refused(refusal),
         Check::Accepted => DailyOverruns::Over(both_daily(hours, receipt, delivery)),

@@ -1,21 +1,20 @@
 use crate::daily::both_daily;
-use crate::gas::greater;
 use crate::hourly::hourly;
 use crate::twelve_hourly::twelve_hourly;
 use metered::Side;
 use metered::both_days;
+use metered::examine_hours;
 use metered::examine_mdqs;
-use metered::examine_rows;
 use metered::examine_sides;
 use units::Check;
 use units::Gigajoules;
 use units::MOST_HOUR;
 use units::Megajoules;
 use units::Refusal;
+use units::greater;
 ghost use mathlib.Core.Path.{_≡_};
 ghost use lib.ListN.{length};
-ghost use Rattle.metered.specs.Hours.{Within, Rows-within};
-ghost use Rattle.metered.specs.Singles.{Backhaul-within};
+ghost use Rattle.metered.specs.Private.{Within, Rows-within, Backhaul-within};
 ghost use Rattle.overruns.specs.Day.{all-compared, day-answer};
 
 // The four overruns of a shipper's day, and the greatest of them.
@@ -79,7 +78,7 @@ pub fn overruns_of_day(
     let found = examine_mdqs(p, m)
         .then(examine_sides(receipt, delivery))
         .megajoules_within(&both[..11], MOST_HOUR)
-        .then(examine_rows(hours));
+        .then(examine_hours(hours));
     match found {
         Check::Refused(refusal) => DayOverruns::Refused(refusal),
         Check::Accepted => DayOverruns::Over(four_overruns(p, m, &both, hours, receipt, delivery)),

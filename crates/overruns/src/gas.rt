@@ -2,11 +2,11 @@ use units::Gigajoules;
 use units::Megajoules;
 use units::in_megajoules;
 ghost use mathlib.Core.Path.{_≡_};
-ghost use Prim.Native.Nat.{_-_, _*_, _^_, _≤_, _<_, max};
+ghost use Prim.Native.Nat.{_-_, _*_, _^_, _≤_, _<_};
 ghost use lib.ListN.{length};
 ghost use Rattle.columns.specs.Column.{col};
 ghost use Rattle.columns.specs.Sum.{sum};
-ghost use Rattle.metered.specs.Hours.{Within};
+ghost use Rattle.metered.specs.Private.{Within};
 
 // What is above a limit.
 pub fn excess(gas: Megajoules, limit: Megajoules) -> Megajoules
@@ -16,16 +16,6 @@ pub fn excess(gas: Megajoules, limit: Megajoules) -> Megajoules
         return Megajoules(0);
     }
     Megajoules(gas.0 - limit.0)
-}
-
-// The greater of two.
-pub fn greater(one: Megajoules, other: Megajoules) -> Megajoules
-    ensures { λ r. ⌜ r .0 ≡ max (one .0) (other .0) ⌝ }
-{
-    if one.0 < other.0 {
-        return other;
-    }
-    one
 }
 
 // So many thousandths of an MDQ, as the clauses set their limits. One of them is whole, so that no division is left to do.

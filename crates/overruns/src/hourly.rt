@@ -1,15 +1,16 @@
 use crate::Overrun;
 use crate::gas::excess;
-use crate::gas::greater;
 use crate::gas::thousandths;
-use metered::examine_rows;
+use metered::examine_hours;
 use units::Check;
 use units::Gigajoules;
 use units::MOST_GIGAJOULES;
 use units::Megajoules;
+use units::greater;
 ghost use mathlib.Core.Path.{_≡_};
 ghost use Rattle.columns.specs.Column.{col};
-ghost use Rattle.metered.specs.Hours.{delivered, received, Rows-within};
+ghost use Rattle.metered.specs.Hours.{delivered, received};
+ghost use Rattle.metered.specs.Private.{Rows-within};
 ghost use Rattle.excesses.specs.Hourly.{hourly};
 ghost use Rattle.overruns.specs.Hourly.{hourly-answer};
 
@@ -36,7 +37,7 @@ pub fn hourly_overrun(m: Gigajoules, hours: [[Megajoules; 24]; 2]) -> Overrun
 {
     let found = Check::Accepted
         .keep(m.0 <= MOST_GIGAJOULES.0, 3)
-        .then(examine_rows(hours));
+        .then(examine_hours(hours));
     match found {
         Check::Refused(refusal) => Overrun::Refused(refusal),
         Check::Accepted => Overrun::Over(hourly(m, hours)),

@@ -11,8 +11,9 @@ ghost use mathlib.Core.Path.{_≡_};
 ghost use Prim.Native.Nat.{_≤_};
 ghost use lib.ListN.{length};
 ghost use Rattle.columns.specs.Column.{col};
-ghost use Rattle.metered.specs.Hours.{Within};
-ghost use Rattle.excesses.specs.TwelveHourly.{period-limit, excesses-before, twelve-hourly};
+ghost use Rattle.metered.specs.Private.{Within};
+ghost use Rattle.excesses.specs.TwelveHourly.{period-limit, twelve-hourly};
+ghost use Rattle.overruns.specs.Private.{excesses-before};
 ghost use Rattle.overruns.specs.TwelveHourly.{twelve-hourly-answer};
 
 // The limit of the period that ends with hour h of today, whose first 12 − h hours are yesterday's.

@@ -12,7 +12,7 @@ use Rattle.columns.specs.Column.{col}
 use Rattle.columns.proofs.Firsts.{first-before}
 use Rattle.dayformat.specs.declared.form.Tag.the-variants as Tag
 use Rattle.dayformat.specs.Layout.{no-rows, row-start}
-use Rattle.dayformat.proofs.Tables.{col-joined}
+use Rattle.columns.proofs.Joined.{col-joined}
 use Rattle.dayrows.specs.declared.Source.the-variants as Source
 use Rattle.dayrows.specs.declared.Test.the-variants as Test
 use Rattle.dayrows.specs.Test.{bounded, difference, rises, passes, fault}

@@ -5,31 +5,26 @@ use Prim.Native.Nat.{ℕ, zero, suc, _*_, _≤_, _<_}
 use native.Mathlib.Omega.{arith}
 use lib.Dec.{leb, ltb}
 use lib.ListN.{length, replicate, length-replicate}
-use Rattle.columns.specs.Column.{col, listed}
+use Rattle.columns.specs.Column.{col}
 use Rattle.columns.proofs.Firsts.{first-le, first-before}
-use Rattle.bigendian.specs.Row.{size}
 use Rattle.units.specs.declared.refusal.Check.{Check}
 use Rattle.units.specs.declared.refusal.Check.the-variants as Check
 use Rattle.units.specs.Refusals.{_then_, keep}
 use Rattle.units.proofs.Checks.{both-accepted}
 use Rattle.dayformat.specs.declared.form.Tag.the-variants as Tag
-use Rattle.dayformat.specs.Format.{field-size, column-in}
 use Rattle.dayfields.proofs.Breaking.{broken-none}
 use Rattle.dayruns.specs.declared.run.Run.{Run}
 use Rattle.dayruns.specs.declared.walk.Walk.{Walk}
 use Rattle.dayruns.specs.Run.{Fields, place-of, rows-of, field-fault, stops, run-of, laid, Ran}
 use Rattle.dayruns.specs.Walk.{walk-after, ended}
 use Rattle.dayruns.specs.Walk.{file-check}
-use Rattle.pointentries.specs.Entries.{entries, entry-run, entry-rows, unread, entry-walk, list-check, most-entry-numbers, EntriesWalked, ListChecked}
+use Rattle.pointentries.specs.Entries.{entries, entry-run, entry-rows, unread, entry-walk, list-check}
+use Rattle.pointentries.specs.Private.{EntriesWalked, ListChecked, most-entry-numbers}
 use Rattle.dayruns.proofs.Running.{field-none, goes-sound, ran-sound}
 use Rattle.dayruns.proofs.Runs.{run-same, run-front}
 use Rattle.dayruns.proofs.Fronts.{front-none}
 use Rattle.dayruns.proofs.Ending.{ended-none, faultless}
-
--- an entry's field has twelve bytes
-pub entry-size : field-size Tag.Entry ≡ 12
-unfolding size listed column-in
-entry-size = refl
+use Rattle.dayformat.proofs.Sizes.{entry-size}
 
 module _ (list : List ℕ) (side : ℕ) where
   abbrev F : Fields

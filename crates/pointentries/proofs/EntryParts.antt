@@ -18,12 +18,13 @@ use Rattle.units.specs.declared.refusal.Check.the-variants as Check
 use Rattle.units.proofs.Determined.{determined}
 use Rattle.dayformat.specs.declared.form.Tag.the-variants as Tag
 use Rattle.dayformat.specs.Format.{field-size}
-use Rattle.dayformat.proofs.Tables.{col-joined}
+use Rattle.columns.proofs.Joined.{col-joined}
 use Rattle.dayruns.specs.Run.{place-of, row-of, rows-of}
 use Rattle.pointentries.specs.Entries.{entries, entry-rows, list-check, is-of, first-entry, many-entries, start-in, long-in, asked, entries-check, Part}
 use Rattle.dayruns.proofs.Running.{length-row}
 use Rattle.pointentries.proofs.EntryKeys.{points-ordered}
-use Rattle.pointentries.proofs.EntryLists.{entry-size, place-is, rows-few, Sound, accepted-sound}
+use Rattle.pointentries.proofs.EntryLists.{place-is, rows-few, Sound, accepted-sound}
+use Rattle.dayformat.proofs.Sizes.{entry-size}
 
 -- ---- side 1 asks for the delivery list, any other for the receipt list
 pub asked-delivery {ℓ} : {X : Type ℓ} (side : ℕ) (receipt delivery : X) → side ≡ 1 → asked side receipt delivery ≡ delivery

@@ -85,15 +85,3 @@ pub record Part (list part : RefT (List ℕ)) (start long : ℕ) : Type 0 where
   pub bytes : now part ≡ take long (drop start (now list))
   pub block : ptr part .0 ≡ ptr list .0
   pub starts : ptr part .1 ≡ ptr list .1 + start
-
--- ---- the statements of the routines that look at one list with a lent list of numbers: its rows, from zeros
-abbrev pub most-entry-numbers : ℕ
-most-entry-numbers = 2_048
-
-pub record EntriesWalked (list : List ℕ) (side : ℕ) (after : List ℕ) (walk : Walk) : Type 0 where
-  pub answers : walk ≡ entry-walk list side
-  pub holds : walk .fault ≡ 0 → col after ≡ col (rows-of (entries list side) (entry-rows list side))
-
-pub record ListChecked (list : List ℕ) (side point : ℕ) (after : List ℕ) (check : Check) : Type 0 where
-  pub answers : check ≡ list-check list side point
-  pub holds : check ≡ Check.Accepted → col after ≡ col (rows-of (entries list side) (entry-rows list side))

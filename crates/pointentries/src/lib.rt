@@ -1,5 +1,8 @@
 // The entries of a point: a part of the receipt list or of the delivery list, opened.
 use dayformat::Counts;
+use dayformat::ENTRY_COLUMNS;
+use dayformat::ENTRY_FIELD;
+use dayformat::MOST_ENTRIES;
 use dayformat::Tag;
 use dayrows::Source;
 use dayrows::number_of;
@@ -13,13 +16,11 @@ ghost use lib.Dec.{eqb};
 ghost use lib.ListN.{replicate};
 ghost use Rattle.columns.specs.Column.{col};
 ghost use Rattle.columns.specs.First.{first};
-ghost use Rattle.pointentries.specs.Entries.{asked, entries-check, part-start, part-long, start-in, long-in, most-entry-numbers, Part, EntriesWalked, ListChecked};
+ghost use Rattle.pointentries.specs.Entries.{asked, entries-check, part-start, part-long, start-in, long-in, Part};
+ghost use Rattle.pointentries.specs.Private.{EntriesWalked, ListChecked, most-entry-numbers};
 
-// How many numbers a list has at most: 512 entries of four.
-const MOST_NUMBERS: usize = 2_048;
-
-// How many bytes an entry has.
-const ENTRY_SIZE: usize = 12;
+// How many numbers a list has at most.
+const MOST_NUMBERS: usize = MOST_ENTRIES as usize * ENTRY_COLUMNS;
 
 // A list of one side's entries walked through. Their rows go into the numbers.
 fn walk_entries(list: &[u8], side: usize, numbers: &mut [usize]) -> Walk
@@ -117,11 +118,11 @@ fn part_of<'a>(list: &'a [u8], side: u8, point: u16) -> &'a [u8]
             &list[end..end]
         }
         Check::Accepted => {
-            let rows = list.len() / ENTRY_SIZE;
+            let rows = list.len() / ENTRY_FIELD;
             let row = first_entry(&numbers, rows, point);
             let many = many_entries(&numbers, rows, point, row);
-            let start = row * ENTRY_SIZE;
-            let end = (row + many) * ENTRY_SIZE;
+            let start = row * ENTRY_FIELD;
+            let end = (row + many) * ENTRY_FIELD;
             &list[start..end]
         }
     }

@@ -13,12 +13,12 @@ use Rattle.units.specs.declared.refusal.Check.the-variants.{Accepted, Refused}
 use Rattle.units.specs.Bound.{most-hour}
 use Rattle.lines.specs.Line.{line, decimals, refused}
 use Rattle.lines.proofs.Sizes.{line-none, line-within, figure-within}
-use Rattle.pointshares.specs.Share.{shares}
-use Rattle.pointshares.specs.Answer.{check}
+use Rattle.pointshares.specs.Share.{hour-shares}
+use Rattle.pointshares.specs.Answer.{hour-check}
 use Rattle.pointshares.proofs.Accepting.{accepting}
 use Rattle.pointshares.proofs.Cases.{share-most}
 use Rattle.pointshares.proofs.Decided.{hour-numbered, hour-placed}
-use Rattle.listings.proofs.Lines.{texts-most}
+use Rattle.lines.proofs.Texts.{texts-most}
 use Rattle.pointhours.specs.HourText.{share-lines, hour-lines}
 
 -- ---- the hour's own refusal
@@ -40,13 +40,13 @@ module _ (capacity many : ℕ) (shipper entitlement mdq : ℕ → ℕ) (named : 
   abbrev M : List ℕ
   M = listed many mdq
 
-  lines-most : (found : Check) → check capacity E M (length E) ≡ found
-      → length (share-lines found many shipper (shares E M capacity)) ≤ 1_088
+  lines-most : (found : Check) → hour-check capacity E M (length E) ≡ found
+      → length (share-lines found many shipper (hour-shares E M capacity)) ≤ 1_088
   lines-most Accepted e =
       let R = accepting capacity E M (length E) e .shareable in
       omega (
         arith,
-        texts-most (λ entry. line (decimals (shipper entry ∷ shares E M capacity entry ∷ []))) 17 many
+        texts-most (λ entry. line (decimals (shipper entry ∷ hour-shares E M capacity entry ∷ []))) 17 many
             (λ entry l. share-line-most (shipper entry) _ (named entry l) (share-most R entry (rw length-listed l))),
         R .rows .few,
         length-listed many entitlement,
@@ -58,4 +58,4 @@ module _ (capacity many : ℕ) (shipper entitlement mdq : ℕ → ℕ) (named : 
       )
 
   pub hour-most : length (hour-lines capacity many shipper entitlement mdq) ≤ 1_088
-  hour-most = lines-most (check capacity E M (length E)) refl
+  hour-most = lines-most (hour-check capacity E M (length E)) refl

@@ -3,17 +3,16 @@ use mathlib.Core.List.{List, [], _∷_}
 use Prim.Native.Nat.{ℕ}
 use lib.Dec.{eqb}
 use lib.ListN.{length}
-use Rattle.columns.specs.Column.{listed}
+use Rattle.columns.specs.Column.{listed, joined}
 use Rattle.columns.specs.First.{first}
 use Rattle.units.specs.declared.refusal.Check.{Check}
 use Rattle.units.specs.declared.refusal.Check.the-variants as Check
 use Rattle.lines.specs.Line.{line, decimals, refused}
-use Rattle.pointshares.specs.Share.{shares}
-use Rattle.pointshares.specs.Answer.{check}
+use Rattle.pointshares.specs.Share.{hour-shares}
+use Rattle.pointshares.specs.Answer.{hour-check}
 use Rattle.dayformat.specs.declared.form.Tag.the-variants.{Shipper}
 use Rattle.dayformat.specs.declared.layout.Counts.{Counts}
 use Rattle.dayformat.specs.Layout.{count}
-use Rattle.dayformat.specs.Table.{joined}
 use Rattle.dayvalues.specs.Column.{column}
 use Rattle.dayvalues.specs.Shippers.{shipper-of}
 
@@ -27,7 +26,7 @@ abbrev pub hour-lines : ℕ → ℕ → (ℕ → ℕ) → (ℕ → ℕ) → (ℕ
 hour-lines capacity many shipper entitlement mdq =
     let entitlements = listed many entitlement in
     let mdqs = listed many mdq in
-    share-lines (check capacity entitlements mdqs (length entitlements)) many shipper (shares entitlements mdqs capacity)
+    share-lines (hour-check capacity entitlements mdqs (length entitlements)) many shipper (hour-shares entitlements mdqs capacity)
 
 -- the firm MDQ of a shipper's row
 abbrev pub shipper-row : Counts → (ℕ → ℕ) → ℕ → ℕ

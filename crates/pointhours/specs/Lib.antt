@@ -1,2 +1,3 @@
 pub mod HourText
 pub mod Parts
+pub mod Private

@@ -1,35 +1,36 @@
 // What the entries of a point say: a run of tag 4 fields.
 use bigendian::number_at;
+use columns::lesser;
 use dayformat::Counts;
+use dayformat::ENTRY_FIELD;
+use dayformat::HEADER;
+use dayformat::HOUR;
+use dayformat::NAME;
+use dayformat::SIDE;
 use dayformat::Tag;
 ghost use mathlib.Core.Path.{_≡_};
 ghost use Prim.Native.Nat.{_≤_, _<_, min};
 ghost use Rattle.columns.specs.Column.{col};
 ghost use Rattle.pointhours.specs.HourText.{shipper-row, firm-mdq};
-ghost use Rattle.pointhours.specs.Parts.{most-entries, most-number, entries-in, shipper-in, entitlement-in, mdq-in, with-zeros};
+ghost use Rattle.pointhours.specs.Parts.{most-entries, most-number, entries-in, shipper-in, entitlement-in, mdq-in};
+ghost use Rattle.pointhours.specs.Private.{with-zeros};
 
-// How many bytes an entry has, and how many entries a file has at most.
-const ENTRY_SIZE: usize = 12;
+// How many entries a file has at most.
+pub const MOST_ENTRIES: usize = dayformat::MOST_ENTRIES as usize;
 
-pub const MOST_ENTRIES: usize = 512;
+// Where an entry's shipper stands in its field, behind side and point, and its reserved entitlement.
+const SHIPPER_PLACE: usize = HEADER + SIDE.width + NAME.width;
+
+const ENTITLEMENT_PLACE: usize = SHIPPER_PLACE + NAME.width;
 
 // The greatest u32.
 const MOST_NUMBER: usize = 4_294_967_295;
-
-pub fn lesser(one: usize, other: usize) -> usize
-    ensures { λ r. ⌜ r ≡ min one other ⌝ }
-{
-    if one < other {
-        return one;
-    }
-    other
-}
 
 // How many entries a part has, of a longer run as many as a file can have.
 pub fn entries_in(part: &[u8]) -> usize
     ensures { λ r. ⌜ (r ≡ entries-in (now (part .entry))) × (r ≤ most-entries) ⌝ }
 {
-    lesser(part.len() / ENTRY_SIZE, MOST_ENTRIES)
+    lesser(part.len() / ENTRY_FIELD, MOST_ENTRIES)
 }
 
 // The shipper of an entry.
@@ -37,7 +38,7 @@ pub fn shipper_in(part: &[u8], entry: usize) -> u32
     requires { ⌜ entry < most-entries ⌝ }
     ensures { λ r. ⌜ r ≡ shipper-in (now (part .entry)) entry ⌝ }
 {
-    number_at(part, entry * ENTRY_SIZE + 6, 2)
+    number_at(part, entry * ENTRY_FIELD + SHIPPER_PLACE, NAME.width)
 }
 
 // Its reserved entitlement.
@@ -45,7 +46,7 @@ fn entitlement_in(part: &[u8], entry: usize) -> u32
     requires { ⌜ entry < most-entries ⌝ }
     ensures { λ r. ⌜ r ≡ entitlement-in (now (part .entry)) entry ⌝ }
 {
-    number_at(part, entry * ENTRY_SIZE + 8, 4)
+    number_at(part, entry * ENTRY_FIELD + ENTITLEMENT_PLACE, HOUR.width)
 }
 
 // The first row of the shipper table that is the shipper's, or the number of rows.

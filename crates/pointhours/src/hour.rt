@@ -2,9 +2,9 @@
 use crate::entries::MOST_ENTRIES;
 use crate::entries::entitlements_in;
 use crate::entries::entries_in;
-use crate::entries::lesser;
 use crate::entries::mdqs_in;
 use crate::entries::shipper_in;
+use columns::lesser;
 use dayformat::Counts;
 use lines::put_line;
 use lines::put_refusal;

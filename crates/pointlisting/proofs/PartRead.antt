@@ -18,16 +18,18 @@ use Rattle.dayformat.specs.declared.day.Day.{Day}
 use Rattle.dayformat.specs.declared.form.Tag.the-variants.{Entry}
 use Rattle.dayformat.specs.Format.{column-in}
 use Rattle.dayformat.specs.Layout.{count}
-use Rattle.dayformat.proofs.Tables.{joined-same}
+use Rattle.columns.proofs.Joined.{joined-same}
 use Rattle.dayruns.specs.Run.{place-of, row-of}
-use Rattle.daywriter.proofs.Accepting.{Sound}
-use Rattle.pointshares.specs.Share.{shares}
-use Rattle.pointshares.specs.Answer.{check}
+use Rattle.dayrows.specs.Private.{Sound}
+use Rattle.pointshares.specs.Share.{hour-shares}
+use Rattle.pointshares.specs.Answer.{hour-check}
 use Rattle.pointentries.specs.Entries.{entries}
 use Rattle.pointentries.proofs.EntryLists.{place-is}
 use Rattle.entrylists.specs.PointRows.{is-entry, first-row, many-rows, entry-number, point-fields}
 use Rattle.entrylists.proofs.SideRuns.{number-again, list-long}
 use Rattle.pointhours.specs.HourText.{share-lines, hour-lines, firm-mdq}
+use Rattle.pointhours.proofs.EntryPlaces.{shipper-here, entitlement-here}
+use Rattle.dayformat.proofs.Sizes.{entry-size}
 use Rattle.pointhours.specs.Parts.{most-number, entries-in, shipper-in, entitlement-in, mdq-in, part-lines}
 use Rattle.pointlisting.specs.PointsText.{entry-lines}
 use Rattle.pointlisting.proofs.FirmMdqs.{firm-bounded}
@@ -46,10 +48,10 @@ module _ (capacity many : ℕ) (shipper entitlement mdq shipper′ entitlement�
   hour-same : hour-lines capacity many shipper entitlement mdq ≡ hour-lines capacity many shipper′ entitlement′ mdq′
   hour-same =
       ap₂ (λ entitlements mdqs.
-      share-lines (check capacity entitlements mdqs (length entitlements)) many shipper (shares entitlements mdqs capacity))
+      share-lines (hour-check capacity entitlements mdqs (length entitlements)) many shipper (hour-shares entitlements mdqs capacity))
       (listed-same many entitlement entitlement′ entitlements) (listed-same many mdq mdq′ mdqs)
-      ∙ lines-same (check capacity (listed many entitlement′) (listed many mdq′) (length (listed many entitlement′))) many
-      shipper shipper′ (shares (listed many entitlement′) (listed many mdq′) capacity) shippers
+      ∙ lines-same (hour-check capacity (listed many entitlement′) (listed many mdq′) (length (listed many entitlement′))) many
+      shipper shipper′ (hour-shares (listed many entitlement′) (listed many mdq′) capacity) shippers
 
 -- ---- where an entry's shipper and entitlement stand in its field
 module _ (list : List ℕ) (entry : ℕ) where
@@ -68,11 +70,11 @@ module _ (list : List ℕ) (entry : ℕ) where
 
   shipper-there : col (row-of (entries list 0) entry) 2 ≡ shipper-in list entry
   unfolding decode listed column-in
-  shipper-there = ap (λ list. value (take 2 list)) behind-point
+  shipper-there = ap (λ list. value (take 2 list)) behind-point ∙ shipper-here list entry
 
   entitlement-there : col (row-of (entries list 0) entry) 3 ≡ entitlement-in list entry
   unfolding decode listed column-in
-  entitlement-there = ap (λ list. value (take 4 list)) behind-shipper
+  entitlement-there = ap (λ list. value (take 4 list)) behind-shipper ∙ entitlement-here list entry
 
 -- ---- a point's part
 module _ (day : Day) (numbers : List ℕ) (S : Sound day numbers) (side point : ℕ) where
@@ -94,7 +96,7 @@ module _ (day : Day) (numbers : List ℕ) (S : Sound day numbers) (side point : 
       )
 
   many-in : entries-in part ≡ many
-  many-in = omega (arith, list-long day numbers S from many 0 inside, place-is part 0 many, inside, S .few Entry)
+  many-in = rw entry-size (omega (arith, list-long day numbers S from many 0 inside, place-is part 0 many, inside, S .few Entry))
 
   shipper-is : (entry : ℕ) → entry < many → shipper-in part entry ≡ entry-number (day .counts) (col numbers) side point entry 2
   shipper-is entry l = sym (shipper-there part entry) ∙ number-again day numbers S from many 0 inside entry 2 l (omega arith)

@@ -7,7 +7,6 @@ use native.Mathlib.Omega.{arith}
 use lib.ListN.{take, drop}
 use denote.Ref.{RefT, now}
 use Rattle.columns.specs.Column.{col}
-use Rattle.units.specs.declared.refusal.Check.the-variants.{Accepted}
 use Rattle.text.specs.Text.{Laid}
 use Rattle.text.proofs.Laying.{laid-both}
 use Rattle.dayformat.specs.declared.day.Day.{Day}
@@ -16,17 +15,16 @@ use Rattle.dayformat.specs.Format.{body, column-in}
 use Rattle.dayformat.specs.Layout.{count}
 use Rattle.dayrows.specs.declared.Source.the-variants.{File}
 use Rattle.dayrows.specs.declared.Test.the-variants as Test
-use Rattle.dayrows.specs.Test.{within}
+use Rattle.dayrows.specs.Test.{in-bounds}
 use Rattle.dayrows.proofs.Within.{passes-bounded, within-bounds}
-use Rattle.daywriter.specs.Acceptance.{sound}
-use Rattle.daywriter.proofs.Accepting.{Sound, accepting}
+use Rattle.dayrows.specs.Private.{Sound}
 use Rattle.pointentries.specs.Entries.{asked, part-start, part-long, Part}
 use Rattle.dayvalues.specs.Row.{number-at}
 use Rattle.entrylists.specs.PointRows.{point-fields}
 use Rattle.entrylists.proofs.Parts.{parted}
 use Rattle.pointlisting.specs.PointsText.{point-line, entry-lines, point-lines}
 use Rattle.pointhours.specs.Parts.{part-lines}
-use Rattle.pointlisting.specs.Readable.{Readable}
+use Rattle.pointlisting.specs.Private.{Readable}
 use Rattle.pointlisting.proofs.PartRead.{lines-are}
 
 asked-now : (side : ℕ) (receipt delivery : RefT (List ℕ)) → now (asked side receipt delivery) ≡ asked side (now receipt) (now delivery)
@@ -35,13 +33,13 @@ asked-now (suc zero) receipt delivery = refl
 asked-now (suc (suc side)) receipt delivery = refl
 
 -- ---- its figures
-module _ (day : Day) (numbers : List ℕ) (accepted : sound day numbers ≡ Accepted) (row : ℕ) (l : row < count (day .counts) Point) where
+module _ (day : Day) (numbers : List ℕ) (sound : Sound day numbers) (row : ℕ) (l : row < count (day .counts) Point) where
   abbrev figure : ℕ → ℕ
   figure place = number-at (day .counts) (col numbers) Point row place
 
-  bounded : (place : ℕ) → place < 3 → within (column-in (body Point) place) (figure place) ≡ true
+  bounded : (place : ℕ) → place < 3 → in-bounds (column-in (body Point) place) (figure place) ≡ true
   bounded =
-      passes-bounded File (day .counts) (col numbers) Point row (accepting day numbers accepted .passes Point tt Test.Bounds row l) .1
+      passes-bounded File (day .counts) (col numbers) Point row (sound .passes Point tt Test.Bounds row l) .1
 
   pub side-small : figure 0 ≤ 1
   unfolding column-in
@@ -55,7 +53,7 @@ module _ (day : Day) (numbers : List ℕ) (accepted : sound day numbers ≡ Acce
 module _ (day : Day) (numbers : List ℕ) (receipt delivery : RefT (List ℕ)) (R : Readable day numbers (now receipt) (now delivery))
     (row : ℕ) (l : row < count (day .counts) Point) where
   S : Sound day numbers
-  S = accepting day numbers (R .sound)
+  S = R .sound
 
   module _ (side point capacity : ℕ) (side-is : side ≡ number-at (day .counts) (col numbers) Point row 0)
       (point-is : point ≡ number-at (day .counts) (col numbers) Point row 1)

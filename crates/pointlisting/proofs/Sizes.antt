@@ -6,7 +6,7 @@ use Prim.Native.Nat.{ℕ, _-_, _+_, _≤_, _<_}
 use native.Mathlib.Nat.{le-refl}
 use native.Mathlib.Omega.{arith}
 use lib.ListN.{length, length-append}
-use Rattle.columns.specs.Column.{col}
+use Rattle.columns.specs.Column.{col, joined}
 use Rattle.columns.proofs.Firsts.{first-le}
 use Rattle.units.specs.declared.refusal.Check.the-variants.{Accepted}
 use Rattle.units.specs.Bound.{most-hour}
@@ -15,19 +15,18 @@ use Rattle.dayformat.specs.declared.day.Day.{Day}
 use Rattle.dayformat.specs.declared.form.Tag.the-variants.{Point, Entry}
 use Rattle.dayformat.specs.Format.{column-in}
 use Rattle.dayformat.specs.Layout.{count}
-use Rattle.dayformat.specs.Table.{joined}
 use Rattle.dayruns.specs.Walk.{file-check}
 use Rattle.dayruns.proofs.Ending.{faultless}
 use Rattle.dayfile.specs.File.{tables, walked}
 use Rattle.dayfile.specs.Answer.{day-of}
-use Rattle.daywriter.proofs.Accepting.{Sound}
-use Rattle.roundtrip.proofs.FileAgain.{day-number}
+use Rattle.dayrows.specs.Private.{Sound}
+use Rattle.dayfile.proofs.FileAgain.{day-number, read-sound}
 use Rattle.dayvalues.specs.Row.{number-at}
 use Rattle.entrylists.specs.PointRows.{is-entry, first-row, many-rows, entry-number}
-use Rattle.listings.proofs.Lines.{texts-most}
-use Rattle.listings.proofs.ReadSound.{read-sound, sound-number}
+use Rattle.lines.proofs.Texts.{texts-most}
+use Rattle.dayvalues.proofs.Sounds.{sound-number}
 use Rattle.pointhours.proofs.Sizes.{hour-most}
-use Rattle.pointlisting.specs.PointsText.{point-word, day-line, point-line, entry-lines, point-lines, points-text, file-text}
+use Rattle.pointlisting.specs.PointsText.{point-word, day-line, point-line, entry-lines, point-lines, points-text, points-listing}
 
 -- ten digits for the day
 day-line-most : (day : ℕ) → day ≤ 4_294_967_295 → length (day-line day) ≤ 16
@@ -78,7 +77,7 @@ module _ (day : Day) (numbers : List ℕ) (S : Sound day numbers) where
         S .few Point,
       )
 
-pub text-most : (file : List ℕ) → file-check (walked file) ≡ Accepted → length (file-text file) ≤ 65_536
+pub text-most : (file : List ℕ) → file-check (walked file) ≡ Accepted → length (points-listing file) ≤ 65_536
 text-most file accepted =
     let none = faultless (walked file) accepted in
     day-most (day-of file) (tables file .numbers) (read-sound file none) (day-number file none)

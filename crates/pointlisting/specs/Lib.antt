@@ -1,2 +1,2 @@
 pub mod PointsText
-pub mod Readable
+pub mod Private

@@ -1,14 +1,13 @@
 -- The listing of a day's points: DAY number; then for each point POINT, side, point and capacity, and its entries' shares.
 use mathlib.Core.List.{List, [], _∷_, _++_}
 use Prim.Native.Nat.{ℕ}
-use Rattle.columns.specs.Column.{col}
+use Rattle.columns.specs.Column.{col, joined}
 use Rattle.text.specs.Text.{decimal}
 use Rattle.lines.specs.Line.{line, decimals, day-word}
 use Rattle.dayformat.specs.declared.day.Day.{Day}
 use Rattle.dayformat.specs.declared.form.Tag.the-variants.{Point}
 use Rattle.dayformat.specs.declared.layout.Counts.{Counts}
 use Rattle.dayformat.specs.Layout.{count}
-use Rattle.dayformat.specs.Table.{joined}
 use Rattle.dayfile.specs.File.{tables}
 use Rattle.dayfile.specs.Answer.{day-of}
 use Rattle.dayvalues.specs.Row.{number-at}
@@ -45,5 +44,5 @@ points-text day numbers =
     day-line (day .head .day) ++ joined (count (day .counts) Point) (point-lines (day .counts) numbers)
 
 -- ---- of a file
-abbrev pub file-text : List ℕ → List ℕ
-file-text file = points-text (day-of file) (col (tables file .numbers))
+abbrev pub points-listing : List ℕ → List ℕ
+points-listing file = points-text (day-of file) (col (tables file .numbers))

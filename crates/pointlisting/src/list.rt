@@ -3,6 +3,7 @@ use crate::point::put_point;
 use dayfile::Reading;
 use dayfile::read_day;
 use dayformat::Day;
+use dayformat::MOST_NUMBERS;
 use dayformat::numbers_of;
 use entrylists::entries_end;
 use entrylists::entries_start;
@@ -13,23 +14,19 @@ use lines::put_word;
 use units::Refusal;
 ghost use Prim.Native.Nat.{_+_, _^_, _≤_};
 ghost use lib.ListN.{length};
-ghost use Rattle.columns.specs.Column.{col};
+ghost use Rattle.columns.specs.Column.{col, joined};
 ghost use Rattle.units.specs.declared.refusal.Check.the-variants.{Accepted};
 ghost use Rattle.text.specs.Text.{Laid};
-ghost use Rattle.lines.specs.Answer.{Listed};
-ghost use Rattle.dayformat.specs.Table.{joined};
+ghost use Rattle.lines.specs.Answer.{ListingAnswered};
 ghost use Rattle.dayruns.specs.Walk.{file-check};
 ghost use Rattle.dayfile.specs.File.{walked};
-ghost use Rattle.roundtrip.specs.RoundTrip.{Reads};
-ghost use Rattle.pointlisting.specs.PointsText.{day-line, point-lines, points-text, file-text};
-ghost use Rattle.pointlisting.specs.Readable.{Readable};
-
-// How many numbers a day has at most.
-const MOST_NUMBERS: usize = 6_880;
+ghost use Rattle.dayfile.specs.Answer.{Reads};
+ghost use Rattle.pointlisting.specs.PointsText.{day-line, point-lines, points-text, points-listing};
+ghost use Rattle.pointlisting.specs.Private.{Readable};
 
 // Lists a day file's points: the text goes to the front of a lent block.
 pub fn list_points(file: &[u8], lent: &mut [u8]) -> Listing
-    ensures { λ r. ⌜ Listed (file-check (walked (now (file .entry)))) (file-text (now (file .entry)))
+    ensures { λ r. ⌜ ListingAnswered (file-check (walked (now (file .entry)))) (points-listing (now (file .entry)))
         (now (lent .entry)) (now (lent .exit)) r ⌝ }
 {
     let mut numbers = [0usize; MOST_NUMBERS];
@@ -102,7 +99,7 @@ fn lay_points<'a>(
     lent: &mut [u8],
 ) -> Listing
     requires { ⌜ Readable day (now numbers) (now receipt) (now delivery) ⌝ }
-    ensures { λ r. ⌜ Listed Accepted (points-text day (col (now (numbers .entry)))) (now (lent .entry)) (now (lent .exit)) r ⌝ }
+    ensures { λ r. ⌜ ListingAnswered Accepted (points-text day (col (now (numbers .entry)))) (now (lent .entry)) (now (lent .exit)) r ⌝ }
 {
     let room = lent.len();
     let size = put_points(day, numbers, receipt, delivery, lent, room);
@@ -116,7 +113,7 @@ fn lay_points<'a>(
 // The listing of a day that is read out of a file. Its entries of side 1 are the delivery list.
 fn list_day(day: Day, numbers: &[usize], file: &[u8], lent: &mut [u8]) -> Listing
     requires { ⌜ Reads (now file) day (now numbers) ⌝ }
-    ensures { λ r. ⌜ Listed Accepted (points-text day (col (now (numbers .entry)))) (now (lent .entry)) (now (lent .exit)) r ⌝ }
+    ensures { λ r. ⌜ ListingAnswered Accepted (points-text day (col (now (numbers .entry)))) (now (lent .entry)) (now (lent .exit)) r ⌝ }
 {
     let counts = day.counts;
     let start = entries_start(counts);

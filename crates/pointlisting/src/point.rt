@@ -12,7 +12,7 @@ ghost use lib.ListN.{length};
 ghost use Rattle.columns.specs.Column.{col};
 ghost use Rattle.text.specs.Text.{Laid};
 ghost use Rattle.pointlisting.specs.PointsText.{point-line, point-lines};
-ghost use Rattle.pointlisting.specs.Readable.{Readable};
+ghost use Rattle.pointlisting.specs.Private.{Readable};
 
 // POINT, side, point, capacity.
 fn put_title(side: u64, point: u64, capacity: u64, text: &mut [u8], at: usize) -> usize

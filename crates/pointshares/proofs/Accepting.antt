@@ -7,13 +7,13 @@ use borrow.Author.Tests.{leb-true, eqb-true, not-true}
 use lib.ListN.{length}
 use Rattle.units.specs.declared.refusal.Check.{Check}
 use Rattle.units.proofs.Checks.{both-accepted, kept, all-within}
-use Rattle.pointshares.specs.Rows.{Ready}
-use Rattle.pointshares.specs.Answer.{check}
+use Rattle.pointshares.specs.Private.{Ready}
+use Rattle.pointshares.specs.Answer.{hour-check}
 use Rattle.pointshares.proofs.Stranding.{not-stranded}
 
 pub accepting : (h : ℕ) (entitlements mdqs : List ℕ) (room : ℕ)
-    → check h entitlements mdqs room ≡ Check.Accepted → Ready h entitlements mdqs room
-unfolding check
+    → hour-check h entitlements mdqs room ≡ Check.Accepted → Ready h entitlements mdqs room
+unfolding hour-check
 accepting h entitlements mdqs room e =
     let lent = both-accepted _ _ e in
     let apart = both-accepted _ _ (lent .0) in

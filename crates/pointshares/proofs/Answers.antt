@@ -6,14 +6,14 @@ use lib.ListN.{length}
 use Rattle.units.specs.declared.refusal.Refusal.{Refusal}
 use Rattle.units.specs.declared.refusal.Check.{Check}
 use Rattle.pointshares.specs.declared.Hour.{Hour}
-use Rattle.pointshares.specs.Rows.{Filled}
-use Rattle.pointshares.specs.Answer.{check, Answered}
+use Rattle.pointshares.specs.Private.{Filled}
+use Rattle.pointshares.specs.Answer.{hour-check, HourAnswered}
 
 module _ (h : ℕ) (entitlements mdqs lent : List ℕ) where
-  pub refuses : (x : Refusal) → check h entitlements mdqs (length lent) ≡ Check.Refused x
-      → Answered h entitlements mdqs lent (Hour.Refused x) lent
+  pub refuses : (x : Refusal) → hour-check h entitlements mdqs (length lent) ≡ Check.Refused x
+      → HourAnswered h entitlements mdqs lent (Hour.Refused x) lent
   refuses x e = record { answers = rw e; leaves = rw e }
 
-  pub shares-out : (given : ℕ) (after : List ℕ) → check h entitlements mdqs (length lent) ≡ Check.Accepted
-      → Filled h entitlements mdqs lent given after → Answered h entitlements mdqs lent (Hour.Shared (record { 0 = given })) after
+  pub shares-out : (given : ℕ) (after : List ℕ) → hour-check h entitlements mdqs (length lent) ≡ Check.Accepted
+      → Filled h entitlements mdqs lent given after → HourAnswered h entitlements mdqs lent (Hour.Shared (record { 0 = given })) after
   shares-out given after e F = record { answers = rw (e, F .adds); leaves = rw (e, F .front) }

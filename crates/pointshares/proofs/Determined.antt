@@ -4,8 +4,8 @@ use mathlib.Core.List.{List}
 use Prim.Native.Nat.{ℕ}
 use Rattle.units.proofs.Determined.{determined}
 use Rattle.pointshares.specs.declared.Hour.{Hour}
-use Rattle.pointshares.specs.Answer.{Answered}
+use Rattle.pointshares.specs.Answer.{HourAnswered}
 
 pub hour-determined : {h : ℕ} {entitlements mdqs lent : List ℕ} {r₁ r₂ : Hour} {l₁ l₂ : List ℕ}
-    → Answered h entitlements mdqs lent r₁ l₁ → Answered h entitlements mdqs lent r₂ l₂ → (r₁ ≡ r₂) × (l₁ ≡ l₂)
+    → HourAnswered h entitlements mdqs lent r₁ l₁ → HourAnswered h entitlements mdqs lent r₂ l₂ → (r₁ ≡ r₂) × (l₁ ≡ l₂)
 hour-determined a b = (determined (a .answers) (b .answers), determined (a .leaves) (b .leaves))

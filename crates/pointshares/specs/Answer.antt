@@ -14,11 +14,11 @@ use Rattle.units.specs.Bound.{most-hour, most-gigajoules, most-rows}
 use Rattle.units.specs.Refusals.{_then_, keep, within, accepted-or}
 use Rattle.units.specs.Verdict.{Verdict, accepting, refusing}
 use Rattle.pointshares.specs.declared.Hour.{Hour}
-use Rattle.pointshares.specs.Share.{shares, stranded}
+use Rattle.pointshares.specs.Share.{hour-shares, stranded}
 
 -- refused: 9 unequal lists; 3 the capacity, the count, an entitlement, a firm MDQ; 6 stranded capacity; 7 the lent list
-unfoldable pub check : ℕ → List ℕ → List ℕ → ℕ → Check
-check h entitlements mdqs room =
+unfoldable pub hour-check : ℕ → List ℕ → List ℕ → ℕ → Check
+hour-check h entitlements mdqs room =
     Check.Accepted
     then keep (eqb (length entitlements) (length mdqs)) 9
     then keep (leb h most-hour) 3
@@ -29,24 +29,25 @@ check h entitlements mdqs room =
     then keep (leb (length entitlements) room) 7
 
 -- what the shippers are given together
-abbrev pub given : ℕ → List ℕ → List ℕ → Megajoules
-given h entitlements mdqs = record { 0 = sum (length entitlements) (shares entitlements mdqs h) }
+abbrev pub hour-given : ℕ → List ℕ → List ℕ → Megajoules
+hour-given h entitlements mdqs = record { 0 = sum (length entitlements) (hour-shares entitlements mdqs h) }
 
-abbrev pub answer : Check → Megajoules → Hour
-answer Check.Accepted g = Hour.Shared g
-answer (Check.Refused x) g = Hour.Refused x
+abbrev pub hour-answer : Check → Megajoules → Hour
+hour-answer Check.Accepted g = Hour.Shared g
+hour-answer (Check.Refused x) g = Hour.Refused x
 
 -- 01's number, place and figure of each case
-abbrev pub verdict : Hour → Verdict Megajoules
-verdict (Hour.Shared g) = accepting g
-verdict (Hour.Refused x) = refusing x (record { 0 = 0 })
+abbrev pub hour-verdict : Hour → Verdict Megajoules
+hour-verdict (Hour.Shared g) = accepting g
+hour-verdict (Hour.Refused x) = refusing x (record { 0 = 0 })
 
 -- the lent list afterwards: the shares at its front where accepted, as it was where refused
-abbrev pub afterwards : ℕ → List ℕ → List ℕ → List ℕ → List ℕ
-afterwards h entitlements mdqs lent =
-    accepted-or (check h entitlements mdqs (length lent)) (sets lent 0 (listed (length entitlements) (shares entitlements mdqs h))) lent
+abbrev pub hour-afterwards : ℕ → List ℕ → List ℕ → List ℕ → List ℕ
+hour-afterwards h entitlements mdqs lent =
+    accepted-or (hour-check h entitlements mdqs (length lent))
+    (sets lent 0 (listed (length entitlements) (hour-shares entitlements mdqs h))) lent
 
 -- the statement of `share_hour`: its answer, and the lent list before and after
-pub record Answered (h : ℕ) (entitlements mdqs lent : List ℕ) (hour : Hour) (after : List ℕ) : Type 0 where
-  pub answers : hour ≡ answer (check h entitlements mdqs (length lent)) (given h entitlements mdqs)
-  pub leaves : after ≡ afterwards h entitlements mdqs lent
+pub record HourAnswered (h : ℕ) (entitlements mdqs lent : List ℕ) (hour : Hour) (after : List ℕ) : Type 0 where
+  pub answers : hour ≡ hour-answer (hour-check h entitlements mdqs (length lent)) (hour-given h entitlements mdqs)
+  pub leaves : after ≡ hour-afterwards h entitlements mdqs lent

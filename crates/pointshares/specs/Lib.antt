@@ -1,4 +1,4 @@
 pub mod Share
-pub mod Rows
 pub mod Answer
 pub mod Promise
+pub mod Private

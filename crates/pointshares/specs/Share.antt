@@ -7,7 +7,6 @@ use lib.ListN.{length}
 use Rattle.columns.specs.Column.{col}
 use Rattle.columns.specs.Sum.{sum}
 use Rattle.sharing.specs.Part.{part}
-use Rattle.pointshares.specs.declared.totals.Totals.{Totals}
 
 -- one shipper has all of H; two or more have H × RE / TRE where TRE is above H, else RE + (H − TRE) × MDQ / TMDQ
 unfoldable pub share : ℕ → (ℕ → ℕ) → (ℕ → ℕ) → ℕ → ℕ → ℕ
@@ -18,15 +17,12 @@ share n re mdq h i =
     (re i + part n mdq (h - sum n re) i))
 
 -- the same of lists, one row for each shipper
-abbrev pub shares : List ℕ → List ℕ → ℕ → ℕ → ℕ
-shares entitlements mdqs h i = share (length entitlements) (col entitlements) (col mdqs) h i
+abbrev pub hour-shares : List ℕ → List ℕ → ℕ → ℕ → ℕ
+hour-shares entitlements mdqs h i = share (length entitlements) (col entitlements) (col mdqs) h i
 
 -- TRE and TMDQ: the sum of a list
 abbrev pub total : List ℕ → ℕ
 total figures = sum (length figures) (col figures)
-
-abbrev pub totals : List ℕ → List ℕ → Totals
-totals entitlements mdqs = record { entitlement = total entitlements; mdq = total mdqs }
 
 -- two or more at the point, H above TRE, TMDQ zero
 unfoldable pub stranded : List ℕ → List ℕ → ℕ → Bool

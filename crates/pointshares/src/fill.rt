@@ -2,7 +2,7 @@ use crate::share::share_at;
 use crate::totals::Totals;
 ghost use Prim.Native.Nat.{_≤_};
 ghost use lib.ListN.{length};
-ghost use Rattle.pointshares.specs.Rows.{Shareable, Filled};
+ghost use Rattle.pointshares.specs.Private.{Shareable, Filled};
 
 // Writes each shipper's share to the front of `shares`, and returns what they are given together.
 pub fn fill(

@@ -8,7 +8,7 @@ mod totals;
 use units::Check;
 use units::Megajoules;
 use units::Refusal;
-ghost use Rattle.pointshares.specs.Answer.{Answered};
+ghost use Rattle.pointshares.specs.Answer.{HourAnswered};
 
 // What the shippers are given together, or why nothing is shared.
 pub enum Hour {
@@ -23,7 +23,8 @@ pub fn share_hour(
     mdqs: &[u32],
     shares: &mut [u64],
 ) -> Hour
-    ensures { λ r. ⌜ Answered (capacity .0) (now (entitlements .entry)) (now (mdqs .entry)) (now (shares .entry)) r (now (shares .exit)) ⌝ }
+    ensures { λ r. ⌜ HourAnswered (capacity .0) (now (entitlements .entry)) (now (mdqs .entry))
+        (now (shares .entry)) r (now (shares .exit)) ⌝ }
 {
     let found = examine::examine(capacity.0, entitlements, mdqs, shares.len());
     match found {

@@ -2,8 +2,8 @@ use crate::totals::Totals;
 ghost use mathlib.Core.Path.{_≡_};
 ghost use Prim.Native.Nat.{_<_};
 ghost use lib.ListN.{length};
-ghost use Rattle.pointshares.specs.Share.{shares};
-ghost use Rattle.pointshares.specs.Rows.{Shareable};
+ghost use Rattle.pointshares.specs.Share.{hour-shares};
+ghost use Rattle.pointshares.specs.Private.{Shareable};
 
 // What the capacity gives one shipper.
 pub fn share_at(
@@ -14,7 +14,7 @@ pub fn share_at(
     row: usize,
 ) -> u64
     requires { ⌜ Shareable capacity totals (now entitlements) (now mdqs) × (row < length (now entitlements)) ⌝ }
-    ensures { λ r. ⌜ r ≡ shares (now (entitlements .entry)) (now (mdqs .entry)) capacity row ⌝ }
+    ensures { λ r. ⌜ r ≡ hour-shares (now (entitlements .entry)) (now (mdqs .entry)) capacity row ⌝ }
 {
     let entitlement = entitlements[row];
     if entitlements.len() < 2 {

@@ -1,6 +1,5 @@
 ghost use mathlib.Core.Path.{_≡_};
-ghost use Rattle.pointshares.specs.Share.{totals};
-ghost use Rattle.pointshares.specs.Rows.{Rows};
+ghost use Rattle.pointshares.specs.Private.{Rows, totals};
 
 // TRE and TMDQ.
 pub struct Totals {

@@ -7,11 +7,11 @@ use borrow.Author.Tests.{leb-true, eqb-true, le-leb, eq-eqb}
 use lib.ListN.{length}
 use Rattle.units.specs.declared.refusal.Check.{Check}
 use Rattle.units.proofs.Checks.{both-accepted, kept, all-within, accepts-both, accepts-kept, accepts-within}
-use Rattle.rounds.specs.Rows.{Ready}
-use Rattle.rounds.specs.Answer.{check}
+use Rattle.rounds.specs.Private.{Ready}
+use Rattle.rounds.specs.Answer.{round-check}
 
-pub accepting : (c : ℕ) (ws qs : List ℕ) (room : ℕ) → check c ws qs room ≡ Check.Accepted → Ready c ws qs room
-unfolding check
+pub accepting : (c : ℕ) (ws qs : List ℕ) (room : ℕ) → round-check c ws qs room ≡ Check.Accepted → Ready c ws qs room
+unfolding round-check
 accepting c ws qs room e =
     let lent = both-accepted _ _ e in
     let needs = both-accepted _ _ (lent .0) in
@@ -32,8 +32,8 @@ accepting c ws qs room e =
       fits = leb-true _ _ (kept _ _ (lent .1));
     }
 
-pub accepts : (c : ℕ) (ws qs : List ℕ) (room : ℕ) → Ready c ws qs room → check c ws qs room ≡ Check.Accepted
-unfolding check
+pub accepts : (c : ℕ) (ws qs : List ℕ) (room : ℕ) → Ready c ws qs room → round-check c ws qs room ≡ Check.Accepted
+unfolding round-check
 accepts c ws qs room A =
     accepts-both (accepts-both (accepts-both (accepts-both (accepts-both (accepts-both refl
     (accepts-kept 9 (eq-eqb _ _ (A .rows .same))))

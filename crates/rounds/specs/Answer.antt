@@ -16,8 +16,8 @@ use Rattle.rounds.specs.declared.Given.{Given}
 use Rattle.rounds.specs.declared.Round.{Round}
 
 -- refused: 9 unequal lists; 3 the capacity, the count, a weight, a need; 7 the lent list
-unfoldable pub check : ℕ → List ℕ → List ℕ → ℕ → Check
-check c ws qs room =
+unfoldable pub round-check : ℕ → List ℕ → List ℕ → ℕ → Check
+round-check c ws qs room =
     Check.Accepted
     then keep (eqb (length ws) (length qs)) 9
     then keep (leb c most-capacity) 3
@@ -27,25 +27,25 @@ check c ws qs room =
     then keep (leb (length ws) room) 7
 
 -- the level, and what the rows are given together
-abbrev pub given : ℕ → List ℕ → List ℕ → Given
-given c ws qs =
+abbrev pub round-given : ℕ → List ℕ → List ℕ → Given
+round-given c ws qs =
     record {
       level = level (length ws) (col ws) (col qs) c;
       total = record { 0 = sum (length ws) (shares (length ws) (col ws) (col qs) c) };
     }
 
-abbrev pub answer : Check → Given → Round
-answer Check.Accepted g = Round.Shared g
-answer (Check.Refused x) g = Round.Refused x
+abbrev pub round-answer : Check → Given → Round
+round-answer Check.Accepted g = Round.Shared g
+round-answer (Check.Refused x) g = Round.Refused x
 
 -- 01's number, place and figures of each case
-abbrev pub verdict : Round → Verdict Given
-verdict (Round.Shared g) = accepting g
-verdict (Round.Refused x) = refusing x (record { level = 0; total = record { 0 = 0 } })
+abbrev pub round-verdict : Round → Verdict Given
+round-verdict (Round.Shared g) = accepting g
+round-verdict (Round.Refused x) = refusing x (record { level = 0; total = record { 0 = 0 } })
 
 -- the statement of `share_round`: its answer, and the lent list before and after
-pub record Answered (c : ℕ) (ws qs lent : List ℕ) (round : Round) (after : List ℕ) : Type 0 where
-  pub answers : round ≡ answer (check c ws qs (length lent)) (given c ws qs)
+pub record RoundAnswered (c : ℕ) (ws qs lent : List ℕ) (round : Round) (after : List ℕ) : Type 0 where
+  pub answers : round ≡ round-answer (round-check c ws qs (length lent)) (round-given c ws qs)
   pub leaves :
       after
-      ≡ accepted-or (check c ws qs (length lent)) (sets lent 0 (listed (length ws) (shares (length ws) (col ws) (col qs) c))) lent
+      ≡ accepted-or (round-check c ws qs (length lent)) (sets lent 0 (listed (length ws) (shares (length ws) (col ws) (col qs) c))) lent

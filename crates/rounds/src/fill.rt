@@ -2,7 +2,7 @@ use crate::share::share_at;
 ghost use Prim.Native.Nat.{_≤_};
 ghost use lib.ListN.{length};
 ghost use Rattle.sharing.specs.Round.{top};
-ghost use Rattle.rounds.specs.Rows.{Rows, Filled};
+ghost use Rattle.rounds.specs.Private.{Rows, Filled};
 
 // Writes what a level gives each row to the front of `shares`, and returns what it gives them together.
 pub fn fill(weights: &[u32], needs: &[u32], level: u64, shares: &mut [u32]) -> u32

@@ -12,7 +12,7 @@ ghost use Prim.Native.Nat.{_≤_, _<_};
 ghost use lib.ListN.{length};
 ghost use Rattle.columns.specs.Column.{col};
 ghost use Rattle.sharing.specs.Round.{top, total, level};
-ghost use Rattle.rounds.specs.Rows.{Rows};
+ghost use Rattle.rounds.specs.Private.{Rows};
 
 // The level of a round: the top where all that can be met is met there, else by a search below it.
 pub fn level_of(capacity: u32, weights: &[u32], needs: &[u32]) -> u64

@@ -11,7 +11,7 @@ mod whole;
 use units::Check;
 use units::Gigajoules;
 use units::Refusal;
-ghost use Rattle.rounds.specs.Answer.{Answered};
+ghost use Rattle.rounds.specs.Answer.{RoundAnswered};
 
 // A round's level, and what its rows are given together.
 pub struct Given {
@@ -31,7 +31,8 @@ pub fn share_round(
     needs: &[u32],
     shares: &mut [u32],
 ) -> Round
-    ensures { λ r. ⌜ Answered (capacity .0) (now (weights .entry)) (now (needs .entry)) (now (shares .entry)) r (now (shares .exit)) ⌝ }
+    ensures { λ r. ⌜ RoundAnswered (capacity .0) (now (weights .entry)) (now (needs .entry))
+        (now (shares .entry)) r (now (shares .exit)) ⌝ }
 {
     let found = examine::examine(capacity.0, weights, needs, shares.len());
     match found {

@@ -4,7 +4,7 @@ ghost use Prim.Native.Nat.{_≤_};
 ghost use lib.ListN.{length};
 ghost use Rattle.columns.specs.Column.{col};
 ghost use Rattle.sharing.specs.Round.{top, total};
-ghost use Rattle.rounds.specs.Rows.{Rows};
+ghost use Rattle.rounds.specs.Private.{Rows};
 
 // One pass over the rows at a level: what they are given together, and the weights of the rows that stay short.
 pub struct Pass {

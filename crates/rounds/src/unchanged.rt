@@ -4,7 +4,7 @@ ghost use Prim.Native.Nat.{_≤_, _<_};
 ghost use lib.ListN.{length};
 ghost use Rattle.columns.specs.Column.{col};
 ghost use Rattle.sharing.specs.Round.{share, top, total};
-ghost use Rattle.rounds.specs.Rows.{Rows};
+ghost use Rattle.rounds.specs.Private.{Rows};
 
 // The last level below `high` at which no row is given more than at `low`.
 pub fn last_unchanged(weights: &[u32], needs: &[u32], low: u64, high: u64) -> u64

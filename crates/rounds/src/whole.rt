@@ -3,7 +3,7 @@ ghost use mathlib.Core.Path.{_≡_};
 ghost use lib.ListN.{length};
 ghost use Rattle.columns.specs.Column.{col};
 ghost use Rattle.sharing.specs.Round.{top, total};
-ghost use Rattle.rounds.specs.Rows.{Rows};
+ghost use Rattle.rounds.specs.Private.{Rows};
 
 // The rows together: all that the top can give them, and their weights.
 pub struct Whole {

@@ -1,60 +1,39 @@
 -- An accepted day written and read gives the same day.
 use mathlib.Core.Path.{_≡_, refl, ap, sym, _∙_}
 use mathlib.Core.List.{List, _++_}
-use Prim.Native.Nat.{ℕ, suc, _+_, _≤_, _<_}
-use native.Mathlib.Nat.{lt-of-le-of-lt, mul-le-mul-right}
+use Prim.Native.Nat.{ℕ, suc, _≤_, _<_}
+use native.Mathlib.Nat.{mul-le-mul-right}
 use native.Mathlib.Omega.{arith}
 use borrow.Author.Tests.{eq-eqb}
 use lib.ListN.{length, length-append}
-use Rattle.columns.specs.Column.{col}
-use Rattle.columns.proofs.Lists.{length-listed, col-listed}
-use Rattle.bigendian.specs.Row.{Fit}
+use Rattle.columns.specs.Column.{col, joined}
+use Rattle.columns.proofs.Lists.{length-listed}
 use Rattle.dayformat.specs.declared.day.Day.{Day}
 use Rattle.dayformat.specs.declared.form.Tag.{Tag}
-use Rattle.dayformat.specs.Format.{body, column-in, widths, form}
+use Rattle.dayformat.specs.Format.{form}
 use Rattle.dayformat.specs.Layout.{count, table-start, row-start, numbers-in}
-use Rattle.dayformat.specs.Table.{joined}
-use Rattle.dayformat.proofs.Small.{spelled, Table}
-use Rattle.dayformat.proofs.Tables.{length-joined}
+use Rattle.dayformat.specs.Private.{HasTable}
+use Rattle.columns.proofs.Joined.{length-joined}
 use Rattle.dayrows.specs.declared.Source.the-variants.{File}
-use Rattle.dayrows.specs.declared.Test.{Test}
-use Rattle.dayrows.specs.declared.Test.the-variants as Test
 use Rattle.dayrows.specs.Test.{passes, fault}
 use Rattle.dayrows.proofs.Faults.{none-fault}
 use Rattle.dayrows.proofs.Same.{Earlier, start-same, passes-same}
-use Rattle.dayrows.proofs.Within.{passes-bounded, within-bounds}
 use Rattle.dayruns.specs.Run.{Fields, place-of, rows-of}
 use Rattle.dayruns.specs.Walk.{walk-after}
 use Rattle.dayfile.specs.File.{Tables, fields-from, table-run, tabled}
 use Rattle.dayfile.proofs.Rooms.{before, None-after, none-with, starts-after, grown}
-use Rattle.daywriter.specs.Written.{row-from, fields}
-use Rattle.daywriter.proofs.Accepting.{Sound}
-use Rattle.daywriter.proofs.Sizes.{length-fields}
-use Rattle.roundtrip.proofs.Above.{Above}
-use Rattle.roundtrip.proofs.Agreeing.{Agree, agree-earlier, agree-with, table-inside}
-use Rattle.roundtrip.proofs.Leading.{Leads, leads-more}
-use Rattle.roundtrip.proofs.WrittenRuns.{Written, rows-again, run-again}
+use Rattle.dayformat.specs.DayBytes.{row-from, fields}
+use Rattle.dayrows.specs.Private.{Sound}
+use Rattle.dayrows.proofs.SoundRows.{row-fits}
+use Rattle.dayformat.proofs.Sizes.{length-fields}
+use Rattle.dayfile.proofs.Above.{Above}
+use Rattle.dayfile.proofs.Agreeing.{Agree, agree-earlier, agree-with, table-inside}
+use Rattle.dayfile.proofs.Leading.{Leads, leads-more}
+use Rattle.dayfile.proofs.WrittenRuns.{Written, rows-again, run-again}
 
 module _ (day : Day) (numbers : List ℕ) (S : Sound day numbers) where
   abbrev row : Tag → ℕ → List ℕ
   row tag i = row-from (col numbers) tag (row-start (day .counts) tag i)
-
-  -- a row that is within its bounds can be spelled
-  pub row-fits : (tag : Tag) → Table tag → (i : ℕ) → i < count (day .counts) tag → Fit (widths tag) (row tag i)
-  row-fits tag t i l =
-      record {
-        as-many = length-listed _ _ ∙ sym (length-listed _ _);
-        below = λ place k.
-            let inside : place < form tag .columns = rw length-listed at k in
-            let bound =
-            within-bounds (column-in (body tag) place) _
-            (passes-bounded File (day .counts) (col numbers) tag i (S .passes tag t Test.Bounds i l) .1 place inside) .1
-            in rw (
-              col-listed (form tag .columns) (λ place. col numbers (row-start (day .counts) tag i + place)) place inside,
-              col-listed (form tag .columns) (λ place. column-in (body tag) place .width) place inside,
-            )
-            (lt-of-le-of-lt bound (spelled tag place));
-      }
 
   module _ (file : List ℕ) where
     -- what is read back after the run of a tag
@@ -66,7 +45,7 @@ module _ (day : Day) (numbers : List ℕ) (S : Sound day numbers) where
       pub long : length (T .numbers) ≡ numbers-in (T .walk .counts)
       pub leads : Leads (T .numbers) numbers
 
-    module _ (tag : Tag) (t : Table tag) (T : Tables) (ahead rest : List ℕ) (B : Back (before tag) T ahead)
+    module _ (tag : Tag) (t : HasTable tag) (T : Tables) (ahead rest : List ℕ) (B : Back (before tag) T ahead)
         (is : file ≡ ahead ++ (fields (day .counts) (col numbers) tag ++ rest)) (above : Above (form tag .byte) rest) where
       abbrev F : Fields
       F = fields-from file (T .walk) tag
@@ -93,7 +72,7 @@ module _ (day : Day) (numbers : List ℕ) (S : Sound day numbers) where
             is = is;
             here = sym (B .here);
             each = λ i. length-listed _ _;
-            fits = row-fits tag t;
+            fits = row-fits day numbers S tag t;
             few = S .few tag;
             above = above;
           }

@@ -6,17 +6,16 @@ use native.Mathlib.Decide.{decLt}
 use native.Mathlib.Omega.{arith}
 use lib.ListN.{length, List·getD-append}
 use lib.Seq.{getD-append-add}
-use Rattle.columns.specs.Column.{col}
+use Rattle.columns.specs.Column.{col, joined}
 use Rattle.bigendian.specs.Number.{bytes, AreBytes}
 use Rattle.bigendian.specs.Row.{encode}
 use Rattle.bigendian.proofs.Numbers.{bytes-are}
 use Rattle.dayformat.specs.declared.day.Day.{Day}
 use Rattle.dayformat.specs.declared.form.Tag.{Tag}
 use Rattle.dayformat.specs.declared.form.Tag.the-variants.{Head, Shipper, Point, Entry, Meter}
-use Rattle.dayformat.specs.Format.{widths, form}
+use Rattle.dayformat.specs.Format.{widths, form, field}
 use Rattle.dayformat.specs.Layout.{count, row-start}
-use Rattle.dayformat.specs.Table.{joined, field}
-use Rattle.daywriter.specs.Written.{row-from, head-row, fields, file-of}
+use Rattle.dayformat.specs.DayBytes.{row-from, head-row, fields, file-of}
 use Rattle.roundtrip.specs.RoundTrip.{Exactly}
 use Rattle.roundtrip.proofs.RoundTrips.{round-trips}
 

@@ -8,28 +8,27 @@ use native.Mathlib.Omega.{arith}
 use borrow.Author.Tests.{le-leb, eq-eqb}
 use lib.Dec.{eqb}
 use lib.ListN.{length, drop}
-use Rattle.columns.specs.Column.{col, listed}
+use Rattle.columns.specs.Column.{col, listed, joined}
 use Rattle.columns.proofs.Firsts.{first-none}
 use Rattle.columns.proofs.Lists.{length-listed}
 use Rattle.units.specs.Bound.{most-gigajoules}
 use Rattle.bigendian.specs.Row.{decode, Fit}
 use Rattle.dayformat.specs.declared.day.Head.{Head}
 use Rattle.dayformat.specs.declared.form.Tag.the-variants as Tag
-use Rattle.dayformat.specs.Format.{body, column-in, widths, field-size}
+use Rattle.dayformat.specs.Format.{body, column-in, widths, field-size, field}
 use Rattle.dayformat.specs.Layout.{no-rows, row-start}
-use Rattle.dayformat.specs.Table.{joined, field}
 use Rattle.dayrows.specs.declared.Source.the-variants.{File}
 use Rattle.dayrows.specs.declared.Test.{Test}
 use Rattle.dayrows.specs.declared.Test.the-variants.{Bounds, Key, Mdq}
-use Rattle.dayrows.specs.Test.{within, bounded, rises, named, starved, passes, fault}
+use Rattle.dayrows.specs.Test.{in-bounds, bounded, rises, named, starved, passes, fault}
 use Rattle.dayrows.proofs.Faults.{none-fault}
 use Rattle.dayfields.specs.Field.{broken}
 use Rattle.dayfields.proofs.Breaking.{whole-none}
 use Rattle.dayruns.specs.Run.{place-of, rows-of, field-fault}
 use Rattle.dayfile.specs.File.{head-fields, head-fault, head-of, headed}
-use Rattle.daywriter.specs.Written.{head-row}
-use Rattle.roundtrip.proofs.FieldsThere.{whole-there, row-there}
-use Rattle.roundtrip.proofs.FileAgain.{head-numbers}
+use Rattle.dayformat.specs.DayBytes.{head-row}
+use Rattle.dayfile.proofs.FieldsThere.{whole-there, row-there}
+use Rattle.dayfile.proofs.FileAgain.{head-numbers}
 
 -- the day number is a u32, and both capacities are within their bound
 pub record Bounded (head : Head) : Type 0 where
@@ -48,7 +47,7 @@ module _ (head : Head) (B : Bounded head) where
       below (suc (suc zero)) l = omega (arith, B .compressor)
       below (suc (suc (suc place))) l = absurd (omega (arith, l))
 
-  head-within : (place : ℕ) → place < 3 → within (column-in (body Tag.Head) place) (col (head-row head) place) ≡ true
+  head-within : (place : ℕ) → place < 3 → in-bounds (column-in (body Tag.Head) place) (col (head-row head) place) ≡ true
   unfolding column-in
   head-within zero l = rw (le-leb 0 (head .day) (omega arith), le-leb (head .day) 4_294_967_295 (omega (arith, B .day)))
   head-within (suc zero) l = rw (
@@ -83,10 +82,11 @@ module _ (head : Head) (B : Bounded head) where
         rw (le-leb 3 _
         (le-of-eq
         (sym
-        (first-none (λ place. not (within (column-in (body Tag.Head) place) (col (head-row head) (row-start no-rows Tag.Head 0 + place)))) 3
+        (first-none (λ place. not
+        (in-bounds (column-in (body Tag.Head) place) (col (head-row head) (row-start no-rows Tag.Head 0 + place)))) 3
         (λ place l.
         let at : row-start no-rows Tag.Head 0 + place ≡ place = omega arith in
-        ap (λ k. not (within (column-in (body Tag.Head) place) (col (head-row head) k))) at ∙ ap not (head-within place l))))))
+        ap (λ k. not (in-bounds (column-in (body Tag.Head) place) (col (head-row head) k))) at ∙ ap not (head-within place l))))))
     head-passes Key = refl
     head-passes Mdq = refl
 

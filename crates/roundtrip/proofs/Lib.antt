@@ -1,13 +1,5 @@
-pub mod Above
-pub mod Agreeing
 pub mod DayAgain
 pub mod Exact
-pub mod FieldsThere
-pub mod FileAgain
 pub mod HeadAgain
-pub mod Leading
 pub mod OnRoutines
-pub mod Rereading
 pub mod RoundTrips
-pub mod SoundRuns
-pub mod WrittenRuns

@@ -1,82 +1,36 @@
 -- The round trips of the routines' answers: one of number 0 says what was accepted, and where the figures stand.
 use mathlib.Core.Path.{_≡_, refl, ap, sym, _∙_}
 use mathlib.Core.List.{List}
-use Prim.Native.Nat.{ℕ, _+_, _≤_}
+use Prim.Native.Nat.{ℕ, _≤_}
 use native.Mathlib.Omega.{arith}
 use borrow.Author.Tests.{le-leb, eq-eqb, leb-true}
 use lib.Dec.{leb}
-use lib.ListN.{length, take, drop}
-use lib.Seq.{sets, sets-eq, take-at}
+use lib.ListN.{length, take}
 use Rattle.columns.specs.Column.{col}
-use Rattle.bigendian.specs.Number.{AreBytes}
 use Rattle.units.specs.declared.refusal.Check.the-variants.{Accepted}
 use Rattle.units.specs.Refusals.{keep}
 use Rattle.units.proofs.Checks.{both-accepted, kept, accepts-both, accepts-kept}
 use Rattle.dayformat.specs.declared.day.Day.{Day}
 use Rattle.dayformat.specs.Layout.{numbers-in, file-size}
-use Rattle.dayfile.specs.declared.reader.Reading.{Reading}
-use Rattle.dayfile.specs.declared.reader.Reading.the-variants as Reading
 use Rattle.dayfile.specs.File.{tables, walked}
-use Rattle.dayruns.specs.Walk.{file-check}
-use Rattle.dayfile.specs.Answer.{day-of}
-use Rattle.dayfile.specs.Answer as reader
+use Rattle.dayfile.specs.Answer.{reading-check, Reads}
 use Rattle.dayfile.proofs.Decided.{reading-decided}
-use Rattle.dayruns.proofs.Ending.{faultless}
-use Rattle.daywriter.specs.Written.{file-of}
-use Rattle.daywriter.specs.Acceptance.{sound}
-use Rattle.daywriter.specs.Acceptance as writer
+use Rattle.dayfile.proofs.Told.{take-front, reads-day, taken-numbers}
+use Rattle.dayformat.specs.DayBytes.{file-of}
+use Rattle.daywriter.specs.Acceptance.{sound, written-check}
 use Rattle.daywriter.proofs.Accepting.{accepting}
 use Rattle.daywriter.proofs.Decided.{written-decided}
-use Rattle.daywriter.proofs.Sizes.{length-file-of}
-use Rattle.roundtrip.specs.RoundTrip.{Reads, File-again, Day-again}
+use Rattle.dayformat.proofs.Sizes.{length-file-of}
+use Rattle.roundtrip.specs.RoundTrip.{File-again, Day-again}
 use Rattle.roundtrip.proofs.RoundTrips.{round-trips}
 
--- figures stored at the front of a list with room are what is taken from its front
-take-front : (figures list : List ℕ) (n : ℕ) → length figures ≡ n → n ≤ length list → take n (sets list 0 figures) ≡ figures
-take-front figures list n e l =
-    ap (take n) (sets-eq figures list 0 (omega (arith, e, l))) ∙ take-at figures (drop (0 + length figures) list) n e
-
--- ---- a day that is answered with number 0 was accepted
-module _ (file lent numbers : List ℕ) (reading : Reading) (R : reader.Answered file lent numbers reading)
-    (zero : reader.verdict reading .number ≡ 0) where
-  abbrev day : Day
-  day = reader.verdict reading .figures
-
-  pub told : (reader.check file (length lent) ≡ Accepted) × (day ≡ day-of file)
-  told = let accepted = reading-decided R .exactly zero in (accepted, reading-decided R .accepted accepted .2)
-
-  both : (file-check (walked file) ≡ Accepted) × (keep (leb (numbers-in (walked file .counts)) (length lent)) 7 ≡ Accepted)
-  unfolding reader.check
-  both = both-accepted _ _ (told .0)
-
-  pub reads-day : Reads file day (tables file .numbers)
-  reads-day =
-      record {
-        accepted = faultless (walked file) (both .0);
-        day-is = sym (told .1);
-        numbers-are = refl;
-      }
-
-  lent-numbers : numbers ≡ sets lent 0 (tables file .numbers)
-  lent-numbers = R .leaves ∙ rw (told .0)
-
-  pub lent-room : numbers-in (day .counts) ≤ length lent
-  lent-room = rw (told .1) (leb-true _ _ (kept _ _ (both .1)))
-
-  pub taken-numbers : AreBytes file → take (numbers-in (day .counts)) numbers ≡ tables file .numbers
-  taken-numbers are =
-      let W = round-trips .file-again file day (tables file .numbers) are reads-day in
-      rw lent-numbers
-      (take-front (tables file .numbers) lent (numbers-in (day .counts))
-      (accepting day (tables file .numbers) (W .accepted) .long) lent-room)
-
 pub file-again : File-again
-unfolding writer.check
+unfolding written-check
 file-again file lent numbers block after reading day written are R zero is A room =
     let taken : take (numbers-in (day .counts)) numbers ≡ tables file .numbers =
-    rw is at (taken-numbers file lent numbers reading R zero are)
+    rw is at (taken-numbers file lent numbers reading R zero)
     in let W = round-trips .file-again file day (tables file .numbers) are (rw is at (reads-day file lent numbers reading R zero))
-    in let accepted : writer.check day (take (numbers-in (day .counts)) numbers) (length block) ≡ Accepted =
+    in let accepted : written-check day (take (numbers-in (day .counts)) numbers) (length block) ≡ Accepted =
     rw taken (accepts-both (W .accepted) (accepts-kept 7 (le-leb _ _ room)))
     in let long : file-size (day .counts) ≡ length file = sym (length-file-of day (col (tables file .numbers))) ∙ ap length (W .file-is)
     in let written-told = written-decided A .accepted accepted
@@ -88,14 +42,14 @@ file-again file lent numbers block after reading day written are R zero is A roo
 
 -- what reads back is accepted where there is room for its numbers
 reads-accepted : (file : List ℕ) (day : Day) (numbers : List ℕ) (room : ℕ) → Reads file day numbers → numbers-in (day .counts) ≤ room
-    → reader.check file room ≡ Accepted
-unfolding reader.check
+    → reading-check file room ≡ Accepted
+unfolding reading-check
 reads-accepted file day numbers room R l =
     let same : walked file .counts ≡ day .counts = ap (λ day. day .counts) (R .day-is) in
     accepts-both (rw (eq-eqb (walked file .fault) 0 (R .accepted))) (accepts-kept 7 (rw same (le-leb (numbers-in (day .counts)) room l)))
 
 pub day-again : Day-again
-unfolding writer.check
+unfolding written-check
 day-again numbers block bytes lent after day written size reading u32 A zero is R room =
     let accepted-day = written-decided A .exactly zero in
     let long : size ≡ file-size (day .counts) = sym is ∙ written-decided A .accepted accepted-day .2 in

@@ -11,19 +11,21 @@ use Rattle.dayformat.specs.declared.day.Day.{Day}
 use Rattle.dayformat.specs.declared.form.Tag.{Tag}
 use Rattle.dayformat.specs.declared.form.Tag.the-variants.{Head, Shipper, Point, Entry, Meter}
 use Rattle.dayformat.specs.Layout.{count, numbers-in}
-use Rattle.dayformat.specs.Table.{field}
+use Rattle.dayformat.specs.Format.{field}
 use Rattle.dayruns.specs.declared.walk.Walk.{Walk}
 use Rattle.dayruns.specs.Walk.{ended}
 use Rattle.dayfile.specs.File.{headed, tables, walked}
-use Rattle.daywriter.specs.Written.{head-row, fields, file-of}
+use Rattle.dayformat.specs.DayBytes.{head-row, fields, file-of}
 use Rattle.daywriter.specs.Acceptance.{sound}
-use Rattle.daywriter.proofs.Accepting.{Sound, accepting}
-use Rattle.daywriter.proofs.Sizes.{length-field}
-use Rattle.roundtrip.specs.RoundTrip.{Reads, RoundTrips}
-use Rattle.roundtrip.proofs.Above.{Above, above-fields}
-use Rattle.roundtrip.proofs.Agreeing.{agree-all}
+use Rattle.daywriter.proofs.Accepting.{accepting, accepts}
+use Rattle.dayrows.specs.Private.{Sound}
+use Rattle.dayformat.proofs.Sizes.{length-field}
+use Rattle.roundtrip.specs.RoundTrip.{RoundTrips}
+use Rattle.dayfile.specs.Answer.{Reads, day-of}
+use Rattle.dayfile.proofs.Above.{Above, above-fields}
+use Rattle.dayfile.proofs.Agreeing.{agree-all}
 use Rattle.roundtrip.proofs.DayAgain.{Back, back-more}
-use Rattle.roundtrip.proofs.FileAgain as again
+use Rattle.dayfile.proofs.FileAgain as again
 use Rattle.roundtrip.proofs.HeadAgain.{Bounded, headed-again, head-again}
 
 -- where nothing is left the walk ends as it stands
@@ -126,7 +128,11 @@ round-trips =
     record {
       file-again = λ file day numbers are R.
           rw (← R .day-is, ← R .numbers-are)
-          (record { accepted = again.day-accepted file (R .accepted); file-is = again.file-again file (R .accepted) are });
+          (record {
+            accepted = accepts (day-of file) (tables file .numbers)
+                (again.read-sound file (R .accepted));
+            file-is = again.file-again file (R .accepted) are;
+          });
       day-again = λ day numbers file u32 W.
           let S = accepting day numbers (W .accepted) in
           rw (← W .file-is, written day numbers S u32) (reads day numbers S u32);

@@ -9,19 +9,11 @@ use Rattle.units.specs.declared.refusal.Check.the-variants.{Accepted}
 use Rattle.dayformat.specs.declared.day.Day.{Day}
 use Rattle.dayformat.specs.Layout.{numbers-in, file-size}
 use Rattle.dayfile.specs.declared.reader.Reading.{Reading}
-use Rattle.dayfile.specs.File.{tables, walked}
-use Rattle.dayfile.specs.Answer.{day-of}
-use Rattle.dayfile.specs.Answer as reader
+use Rattle.dayfile.specs.Answer.{Reads, ReadingAnswered, reading-verdict}
 use Rattle.daywriter.specs.declared.Written.{Written}
-use Rattle.daywriter.specs.Written.{file-of}
+use Rattle.dayformat.specs.DayBytes.{file-of}
 use Rattle.daywriter.specs.Acceptance.{sound}
-use Rattle.daywriter.specs.Answer as writer
-
--- the reader accepts a file, and the day with its numbers is what it answers
-pub record Reads (file : List ℕ) (day : Day) (numbers : List ℕ) : Type 0 where
-  pub accepted : walked file .fault ≡ 0
-  pub day-is : day-of file ≡ day
-  pub numbers-are : tables file .numbers ≡ numbers
+use Rattle.daywriter.specs.Answer.{WrittenAnswered, written-verdict}
 
 -- the writer accepts a day, whose file it is
 pub record Writes (day : Day) (numbers file : List ℕ) : Type 0 where
@@ -38,17 +30,17 @@ pub record RoundTrips : Type 0 where
 abbrev pub File-again : Type 0
 File-again =
     (file lent numbers block after : List ℕ) (reading : Reading) (day : Day) (written : Written) → AreBytes file
-    → reader.Answered file lent numbers reading → reader.verdict reading .number ≡ 0 → reader.verdict reading .figures ≡ day
-    → writer.Answered day (take (numbers-in (day .counts)) numbers) block after written → file-size (day .counts) ≤ length block
-    → (writer.verdict written .number ≡ 0) × (writer.verdict written .figures ≡ length file) × (take (length file) after ≡ file)
+    → ReadingAnswered file lent numbers reading → reading-verdict reading .number ≡ 0 → reading-verdict reading .figures ≡ day
+    → WrittenAnswered day (take (numbers-in (day .counts)) numbers) block after written → file-size (day .counts) ≤ length block
+    → (written-verdict written .number ≡ 0) × (written-verdict written .figures ≡ length file) × (take (length file) after ≡ file)
 
 -- what is written, read again into a block with room, is the day
 abbrev pub Day-again : Type 0
 Day-again =
     (numbers block bytes lent after : List ℕ) (day : Day) (written : Written) (size : ℕ) (reading : Reading) → day .head .day < 2 ^ 32
-    → writer.Answered day numbers block bytes written → writer.verdict written .number ≡ 0 → writer.verdict written .figures ≡ size
-    → reader.Answered (take size bytes) lent after reading → numbers-in (day .counts) ≤ length lent
-    → (reader.verdict reading .number ≡ 0) × (reader.verdict reading .figures ≡ day) × (take (numbers-in (day .counts)) after ≡ numbers)
+    → WrittenAnswered day numbers block bytes written → written-verdict written .number ≡ 0 → written-verdict written .figures ≡ size
+    → ReadingAnswered (take size bytes) lent after reading → numbers-in (day .counts) ≤ length lent
+    → (reading-verdict reading .number ≡ 0) × (reading-verdict reading .figures ≡ day) × (take (numbers-in (day .counts)) after ≡ numbers)
 
 -- ---- the writer accepts exactly the days that the reader can answer
 abbrev pub Exactly : Type 0

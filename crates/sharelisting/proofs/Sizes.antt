@@ -5,13 +5,13 @@ use Prim.Native.Nat.{ℕ, _≤_, _<_}
 use native.Mathlib.Nat.{le-refl, le-trans}
 use native.Mathlib.Omega.{arith}
 use lib.ListN.{length, length-append}
-use Rattle.columns.specs.Column.{col}
+use Rattle.columns.specs.Column.{col, joined}
 use Rattle.columns.proofs.Lists.{length-listed}
 use Rattle.units.specs.declared.refusal.Check.the-variants.{Accepted}
 use Rattle.units.specs.Bound.{most-gigajoules, most-capacity}
 use Rattle.lines.proofs.Sizes.{line-none, line-within, figure-within}
 use Rattle.daytable.specs.Table.{Table, rows}
-use Rattle.daytable.specs.Acceptance.{check}
+use Rattle.daytable.specs.Acceptance.{table-check}
 use Rattle.daytable.proofs.Accepting.{Accepting, accepting}
 use Rattle.dayshares.specs.Given.{firm-given, firm-total, auction-given, lower-tier-given, left}
 use Rattle.dayshares.specs.Promise.{Promise}
@@ -20,19 +20,18 @@ use Rattle.dayformat.specs.declared.day.Day.{Day}
 use Rattle.dayformat.specs.declared.form.Tag.the-variants.{Shipper}
 use Rattle.dayformat.specs.Format.{column-in}
 use Rattle.dayformat.specs.Layout.{count}
-use Rattle.dayformat.specs.Table.{joined}
 use Rattle.dayruns.specs.Walk.{file-check}
 use Rattle.dayruns.proofs.Ending.{faultless}
 use Rattle.dayfile.specs.File.{tables, walked}
 use Rattle.dayfile.specs.Answer.{day-of}
-use Rattle.daywriter.proofs.Accepting.{Sound}
-use Rattle.roundtrip.proofs.FileAgain.{day-number}
+use Rattle.dayrows.specs.Private.{Sound}
+use Rattle.dayfile.proofs.FileAgain.{day-number, read-sound}
 use Rattle.dayvalues.specs.Shippers.{shipper-of}
 use Rattle.numbershares.specs.DayTable.{table-of}
-use Rattle.listings.proofs.Lines.{texts-most}
-use Rattle.listings.proofs.ReadSound.{read-sound, sound-number}
-use Rattle.listings.proofs.SharesAccept.{shares-accept}
-use Rattle.sharelisting.specs.SharesText.{firm-word, left-word, head-line, shipper-line, shares-text, file-text}
+use Rattle.lines.proofs.Texts.{texts-most}
+use Rattle.dayvalues.proofs.Sounds.{sound-number}
+use Rattle.numbershares.proofs.SharesAccept.{shares-accept}
+use Rattle.sharelisting.specs.SharesText.{firm-word, left-word, head-line, shipper-line, shares-text, shares-listing}
 
 -- ten digits for the day, seven for a total of gigajoules
 head-most : (day firm left : ℕ) → day ≤ 4_294_967_295 → firm ≤ most-capacity → left ≤ most-capacity
@@ -55,7 +54,7 @@ module _ (day : Day) (numbers : List ℕ) (S : Sound day numbers) where
   abbrev T : Table
   T = table-of day (col numbers)
 
-  accepted : check T 64 64 64 ≡ Accepted
+  accepted : table-check T 64 64 64 ≡ Accepted
   accepted = shares-accept day numbers S 64 64 64 (le-refl 64) (le-refl 64) (le-refl 64)
 
   A : Accepting T 64 64 64
@@ -96,7 +95,7 @@ module _ (day : Day) (numbers : List ℕ) (S : Sound day numbers) where
         S .few Shipper,
       )
 
-pub text-most : (file : List ℕ) → file-check (walked file) ≡ Accepted → length (file-text file) ≤ 2_048
+pub text-most : (file : List ℕ) → file-check (walked file) ≡ Accepted → length (shares-listing file) ≤ 2_048
 text-most file accepted =
     let none = faultless (walked file) accepted in
     day-most (day-of file) (tables file .numbers) (read-sound file none) (day-number file none)

@@ -15,16 +15,16 @@ use Rattle.dayshares.specs.declared.Day.{Day as DayShares}
 use Rattle.dayshares.specs.declared.Day.the-variants as DayShares
 use Rattle.dayshares.specs.declared.Shares.{Shares}
 use Rattle.dayshares.specs.Given.{firm-given, auction-given, lower-tier-given}
-use Rattle.dayshares.specs.Answer.{shares, verdict}
+use Rattle.dayshares.specs.Answer.{day-shares, shares-verdict}
 use Rattle.dayformat.specs.declared.day.Day.{Day}
 use Rattle.dayformat.specs.declared.form.Tag.the-variants.{Shipper}
 use Rattle.dayformat.specs.Layout.{count}
-use Rattle.dayformat.proofs.Tables.{joined-same}
+use Rattle.columns.proofs.Joined.{joined-same}
 use Rattle.dayvalues.specs.Shippers.{shipper-of}
-use Rattle.daywriter.proofs.Accepting.{Sound}
+use Rattle.dayrows.specs.Private.{Sound}
 use Rattle.numbershares.specs.DayTable.{table-of}
-use Rattle.numbershares.specs.Answer.{check, Answered}
-use Rattle.listings.proofs.SharesAccept.{numbers-accept}
+use Rattle.numbershares.specs.Answer.{numbers-check, NumbersAnswered}
+use Rattle.numbershares.proofs.SharesAccept.{numbers-accept}
 use Rattle.sharelisting.specs.SharesText.{head-line, shipper-lines, shares-text}
 
 abbrev zeros : List ℕ
@@ -34,19 +34,19 @@ long : length zeros ≡ most-rows
 long = length-replicate {A = ℕ} most-rows 0
 
 module _ (day : Day) (numbers : List ℕ) (S : Sound day numbers) {firm auction lower-tier : List ℕ} {answer : DayShares}
-    (H : Answered day numbers zeros zeros zeros answer firm auction lower-tier) where
-  accepted : check day numbers (length zeros) (length zeros) (length zeros) ≡ Check.Accepted
+    (H : NumbersAnswered day numbers zeros zeros zeros answer firm auction lower-tier) where
+  accepted : numbers-check day numbers (length zeros) (length zeros) (length zeros) ≡ Check.Accepted
   accepted = numbers-accept day numbers S _ _ _ (omega (arith, long)) (omega (arith, long)) (omega (arith, long))
 
   abbrev T : Table
   T = table-of day (col numbers)
 
-  shared : answer ≡ DayShares.Shared (shares T)
+  shared : answer ≡ DayShares.Shared (day-shares T)
   shared = H .answers ∙ rw accepted
 
   pub never-refused : {A : Type 0} (x : Refusal) → answer ≡ DayShares.Refused x → A
   never-refused x e =
-      let same : DayShares.Refused x ≡ DayShares.Shared (shares T) = sym e ∙ shared in
+      let same : DayShares.Refused x ≡ DayShares.Shared (day-shares T) = sym e ∙ shared in
       let z : _≡_ {A = ℕ} 0 1 = cc in
       absurd (omega arith)
 
@@ -67,7 +67,7 @@ module _ (day : Day) (numbers : List ℕ) (S : Sound day numbers) {firm auction 
       ++ shipper-lines (count (day .counts) Shipper) (shipper-of (day .counts) (col numbers)) (col firm) (col auction) (col lower-tier)
       ≡ shares-text day (col numbers)
   text-is v e =
-      let v-is : v ≡ shares T = ap (λ day. verdict day .figures) (sym e ∙ shared) in
+      let v-is : v ≡ day-shares T = ap (λ day. shares-verdict day .figures) (sym e ∙ shared) in
       ap₂ (λ x y. x ++ y) (ap (λ v. head-line (day .head .day) (v .firm .0) (v .left .0)) v-is)
       (joined-same (count (day .counts) Shipper) _ _
       (λ row l.

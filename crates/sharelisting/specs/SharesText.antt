@@ -1,14 +1,13 @@
 -- 01: the listing of a day's shares. DAY number, FIRM total, LEFT; then shipper, firm, auction, lower tier.
 use mathlib.Core.List.{List, [], _∷_, _++_}
 use Prim.Native.Nat.{ℕ}
-use Rattle.columns.specs.Column.{col}
+use Rattle.columns.specs.Column.{col, joined}
 use Rattle.text.specs.Text.{decimal}
 use Rattle.lines.specs.Line.{line, decimals, day-word}
 use Rattle.dayshares.specs.Given.{firm-given, firm-total, auction-given, lower-tier-given, left}
 use Rattle.dayformat.specs.declared.day.Day.{Day}
 use Rattle.dayformat.specs.declared.form.Tag.the-variants.{Shipper}
 use Rattle.dayformat.specs.Layout.{count}
-use Rattle.dayformat.specs.Table.{joined}
 use Rattle.dayfile.specs.File.{tables}
 use Rattle.dayfile.specs.Answer.{day-of}
 use Rattle.dayvalues.specs.Shippers.{shipper-of}
@@ -39,5 +38,5 @@ shares-text day numbers =
     ++ shipper-lines (count (day .counts) Shipper) (shipper-of (day .counts) numbers) (firm-given T) (auction-given T) (lower-tier-given T)
 
 -- ---- of a file
-abbrev pub file-text : List ℕ → List ℕ
-file-text file = shares-text (day-of file) (col (tables file .numbers))
+abbrev pub shares-listing : List ℕ → List ℕ
+shares-listing file = shares-text (day-of file) (col (tables file .numbers))

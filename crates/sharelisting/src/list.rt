@@ -4,31 +4,28 @@ use crate::sharestext::put_shippers;
 use dayfile::Reading;
 use dayfile::read_day;
 use dayformat::Day;
+use dayformat::MOST_NUMBERS;
 use dayformat::numbers_of;
 use lines::Listing;
 use numbershares::share_numbers;
 use units::MOST_ROWS;
 use units::Refusal;
-ghost use mathlib.Core.Path.{_≡_};
 ghost use mathlib.Core.List.{_++_};
 ghost use Prim.Native.Nat.{_≤_};
 ghost use lib.ListN.{length};
 ghost use Rattle.columns.specs.Column.{col};
 ghost use Rattle.units.specs.declared.refusal.Check.the-variants.{Accepted};
 ghost use Rattle.text.specs.Text.{Laid};
-ghost use Rattle.lines.specs.Answer.{Listed};
-ghost use Rattle.daywriter.specs.Acceptance.{sound};
-ghost use Rattle.sharelisting.specs.SharesText.{head-line, shipper-lines, shares-text, file-text};
+ghost use Rattle.lines.specs.Answer.{ListingAnswered};
+ghost use Rattle.dayrows.specs.Private.{Sound};
+ghost use Rattle.sharelisting.specs.SharesText.{head-line, shipper-lines, shares-text, shares-listing};
 ghost use Rattle.dayfile.specs.File.{walked};
 ghost use Rattle.dayruns.specs.Walk.{file-check};
 ghost use Rattle.dayvalues.specs.Shippers.{shipper-of};
 
-// How many numbers a day has at most.
-const MOST_NUMBERS: usize = 6_880;
-
 // Lists a day file's shares: the text goes to the front of a lent block.
 pub fn list_shares(file: &[u8], lent: &mut [u8]) -> Listing
-    ensures { λ r. ⌜ Listed (file-check (walked (now (file .entry)))) (file-text (now (file .entry)))
+    ensures { λ r. ⌜ ListingAnswered (file-check (walked (now (file .entry)))) (shares-listing (now (file .entry)))
         (now (lent .entry)) (now (lent .exit)) r ⌝ }
 {
     let mut numbers = [0usize; MOST_NUMBERS];
@@ -77,7 +74,7 @@ fn lay_shares(
     lent: &mut [u8],
 ) -> Listing
     requires { ⌜ day .counts .shippers ≤ 64 ⌝ }
-    ensures { λ r. ⌜ Listed Accepted
+    ensures { λ r. ⌜ ListingAnswered Accepted
         (head-line (day .head .day) (col totals 0) (col totals 1)
         ++ shipper-lines (day .counts .shippers) (shipper-of (day .counts) (col (now (numbers .entry))))
         (col (now (firm .entry))) (col (now (auction .entry))) (col (now («lower_tier» .entry))))
@@ -94,8 +91,8 @@ fn lay_shares(
 
 // A sound day's listing.
 fn list_day(day: Day, numbers: &[usize], lent: &mut [u8]) -> Listing
-    requires { ⌜ sound day (now numbers) ≡ Accepted ⌝ }
-    ensures { λ r. ⌜ Listed Accepted (shares-text day (col (now (numbers .entry)))) (now (lent .entry)) (now (lent .exit)) r ⌝ }
+    requires { ⌜ Sound day (now numbers) ⌝ }
+    ensures { λ r. ⌜ ListingAnswered Accepted (shares-text day (col (now (numbers .entry)))) (now (lent .entry)) (now (lent .exit)) r ⌝ }
 {
     let mut firm = [0u32; MOST_ROWS];
     let mut auction = [0u32; MOST_ROWS];

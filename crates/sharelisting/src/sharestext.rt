@@ -5,7 +5,7 @@ use dayvalues::number_at;
 use lines::put_labelled;
 use lines::put_line;
 use lines::put_word;
-ghost use mathlib.Core.Path.{_≡_};
+use units::gigajoules_at;
 ghost use Prim.Native.Nat.{_+_, _≤_};
 ghost use lib.ListN.{length};
 ghost use Rattle.columns.specs.Column.{col};
@@ -22,16 +22,6 @@ pub fn put_head(day: u32, firm: u32, left: u32, text: &mut [u8], at: usize) -> u
     size += put_labelled(b"FIRM", firm as u64, text, at + size);
     size += put_word(b"LEFT", text, at + size);
     size + put_line(&[left as u64], text, at + size)
-}
-
-// The figure of a row, 0 past the list.
-fn figure(figures: &[u32], row: usize) -> u32
-    ensures { λ r. ⌜ r ≡ col (now (figures .entry)) row ⌝ }
-{
-    if figures.len() <= row {
-        return 0;
-    }
-    figures[row]
 }
 
 // A line for each shipper.
@@ -56,9 +46,9 @@ pub fn put_shippers(
     while row < rows {
         let figures = [
             number_at(counts, numbers, Tag::Shipper, row, 0) as u64,
-            figure(firm, row as usize) as u64,
-            figure(auction, row as usize) as u64,
-            figure(lower_tier, row as usize) as u64,
+            gigajoules_at(firm, row as usize) as u64,
+            gigajoules_at(auction, row as usize) as u64,
+            gigajoules_at(lower_tier, row as usize) as u64,
         ];
         size += put_line(&figures, text, at + size);
         row += 1;

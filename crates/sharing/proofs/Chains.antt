@@ -4,7 +4,8 @@ use Prim.Native.Nat.{ℕ, _+_, _-_, _≤_, _<_, min}
 use native.Mathlib.Omega.{arith}
 use Rattle.columns.specs.Sum.{sum}
 use Rattle.columns.proofs.Sums.{sum-add}
-use Rattle.sharing.specs.Round.{shares, Small, Weighted}
+use Rattle.sharing.specs.Round.{shares}
+use Rattle.sharing.specs.Private.{Small, Weighted}
 use Rattle.sharing.specs.Chain.{unmet, after}
 use Rattle.sharing.specs.Part.{part}
 use Rattle.sharing.proofs.Levels.{level-fits, shortfall}

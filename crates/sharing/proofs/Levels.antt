@@ -11,7 +11,8 @@ use lib.Dec.{leb}
 use Rattle.columns.specs.Sum.{sum}
 use Rattle.columns.proofs.Sums.{sum-mono, sum-add, sum-scale, sum-same, sum-bound}
 use Rattle.sharing.specs.Largest.{largest}
-use Rattle.sharing.specs.Round.{share, total, top, level, shares, Small, Weighted}
+use Rattle.sharing.specs.Round.{share, total, top, level, shares}
+use Rattle.sharing.specs.Private.{Small, Weighted}
 use Rattle.sharing.proofs.Largests.{largest-le, largest-marked, largest-last}
 
 -- ---- one row

@@ -19,7 +19,8 @@ use native.Mathlib.Nat.{
 use native.Mathlib.Omega.{arith}
 use Rattle.columns.specs.Sum.{sum}
 use Rattle.columns.proofs.Sums.{sum-mono, sum-add, sum-scale, sum-same, sum-bound, sum-positive}
-use Rattle.sharing.specs.Round.{level, shares, Small}
+use Rattle.sharing.specs.Round.{level, shares}
+use Rattle.sharing.specs.Private.{Small}
 use Rattle.sharing.specs.Part.{part}
 use Rattle.sharing.proofs.Levels.{share-top, total-weights, level-is}
 

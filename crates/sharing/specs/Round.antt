@@ -1,5 +1,5 @@
 -- 01, "One sharing round" (cl. 3.2, 3.4): a round has n rows, weights w, needs q and a capacity c.
-use Prim.Native.Nat.{ℕ, _*_, _/_, _<_, _≤_, min}
+use Prim.Native.Nat.{ℕ, _*_, _/_, min}
 use lib.Dec.{leb}
 use Rattle.columns.specs.Sum.{sum}
 use Rattle.sharing.specs.Largest.{largest}
@@ -22,11 +22,3 @@ level n w q c = largest (λ t. leb (total n w q t) c) top
 -- what each row gets
 abbrev pub shares : ℕ → (ℕ → ℕ) → (ℕ → ℕ) → ℕ → ℕ → ℕ
 shares n w q c i = share (w i) (q i) (level n w q c)
-
--- every row of a column is at most 1,000,000
-abbrev pub Small : ℕ → (ℕ → ℕ) → Type 0
-Small n f = (i : ℕ) → i < n → f i ≤ 1_000_000
-
--- no row with a need has weight zero
-abbrev pub Weighted : ℕ → (ℕ → ℕ) → (ℕ → ℕ) → Type 0
-Weighted n w q = (i : ℕ) → i < n → 0 < q i → 0 < w i

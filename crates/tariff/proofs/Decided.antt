@@ -8,10 +8,10 @@ use Rattle.units.proofs.Verdicts.{AllNumbered, none, _and_, kept-by, decided}
 use Rattle.tariff.specs.declared.charges.Change.{Change}
 use Rattle.tariff.specs.declared.charges.Charge.{Charge}
 use Rattle.tariff.specs.declared.escalation.Escalation.{Escalation}
-use Rattle.tariff.specs.Charges.{answer, verdict, overrun-cents, overrun-check, overrun-charge}
+use Rattle.tariff.specs.Charges.{charge-answer, charge-verdict, overrun-cents, overrun-check, overrun-charge}
 use Rattle.tariff.specs.Charges.{variation-cents, variation-check, variation-charge}
 use Rattle.tariff.specs.Charges.{request-cents, request-check, request-charge}
-use Rattle.tariff.specs.Escalation.{answer as escalation-answer, verdict as escalation-verdict}
+use Rattle.tariff.specs.Escalation.{escalation-answer, escalation-verdict}
 use Rattle.tariff.specs.Escalation.{escalated-rate, escalation-check, escalation}
 
 module _ (rate : Rate) (overrun : Megajoules) where
@@ -20,8 +20,8 @@ module _ (rate : Rate) (overrun : Megajoules) where
   overrun-numbered = none and kept-by _ 3 tt tt and kept-by _ 3 tt tt
 
   pub overrun-decided : {charge : Charge} → charge ≡ overrun-charge rate overrun
-      → Decided (overrun-check rate overrun) (overrun-cents rate overrun) (record { 0 = 0 }) (verdict charge)
-  overrun-decided = decided answer verdict refl (λ refusal. refl) overrun-numbered
+      → Decided (overrun-check rate overrun) (overrun-cents rate overrun) (record { 0 = 0 }) (charge-verdict charge)
+  overrun-decided = decided charge-answer charge-verdict refl (λ refusal. refl) overrun-numbered
 
 module _ (rate : Rate) (receipt delivery : Change) where
   pub variation-numbered : AllNumbered (variation-check rate receipt delivery)
@@ -30,8 +30,8 @@ module _ (rate : Rate) (receipt delivery : Change) where
       none and kept-by _ 3 tt tt and kept-by _ 3 tt tt and kept-by _ 3 tt tt and kept-by _ 3 tt tt and kept-by _ 3 tt tt
 
   pub variation-decided : {charge : Charge} → charge ≡ variation-charge rate receipt delivery
-      → Decided (variation-check rate receipt delivery) (variation-cents rate receipt delivery) (record { 0 = 0 }) (verdict charge)
-  variation-decided = decided answer verdict refl (λ refusal. refl) variation-numbered
+      → Decided (variation-check rate receipt delivery) (variation-cents rate receipt delivery) (record { 0 = 0 }) (charge-verdict charge)
+  variation-decided = decided charge-answer charge-verdict refl (λ refusal. refl) variation-numbered
 
 module _ (rate : Rate) (requests : ℕ) where
   pub request-numbered : AllNumbered (request-check rate requests)
@@ -39,8 +39,8 @@ module _ (rate : Rate) (requests : ℕ) where
   request-numbered = none and kept-by _ 3 tt tt and kept-by _ 3 tt tt
 
   pub request-decided : {charge : Charge} → charge ≡ request-charge rate requests
-      → Decided (request-check rate requests) (request-cents rate requests) (record { 0 = 0 }) (verdict charge)
-  request-decided = decided answer verdict refl (λ refusal. refl) request-numbered
+      → Decided (request-check rate requests) (request-cents rate requests) (record { 0 = 0 }) (charge-verdict charge)
+  request-decided = decided charge-answer charge-verdict refl (λ refusal. refl) request-numbered
 
 module _ (old : Rate) (new-cpi old-cpi : ℕ) where
   pub escalation-numbered : AllNumbered (escalation-check old new-cpi old-cpi)

@@ -14,14 +14,14 @@ use Rattle.tariff.specs.declared.charges.Charge.{Charge}
 use Rattle.tariff.specs.HalfUp.{half-up}
 
 -- the answer, from what the tests find and the cents where they accept
-abbrev pub answer : Check → Cents → Charge
-answer Check.Accepted due = Charge.Charged due
-answer (Check.Refused x) due = Charge.Refused x
+abbrev pub charge-answer : Check → Cents → Charge
+charge-answer Check.Accepted due = Charge.Charged due
+charge-answer (Check.Refused x) due = Charge.Refused x
 
 -- 01's number, place and cents of each case
-abbrev pub verdict : Charge → Verdict Cents
-verdict (Charge.Charged due) = accepting due
-verdict (Charge.Refused x) = refusing x (record { 0 = 0 })
+abbrev pub charge-verdict : Charge → Verdict Cents
+charge-verdict (Charge.Charged due) = accepting due
+charge-verdict (Charge.Refused x) = refusing x (record { 0 = 0 })
 
 -- cl. 7.2: rate × MJ / 1,000,000
 abbrev pub overrun-cents : Rate → Megajoules → Cents
@@ -34,7 +34,7 @@ overrun-check rate overrun =
     then keep (leb (overrun .0) most-chargeable) 3
 
 abbrev pub overrun-charge : Rate → Megajoules → Charge
-overrun-charge rate overrun = answer (overrun-check rate overrun) (overrun-cents rate overrun)
+overrun-charge rate overrun = charge-answer (overrun-check rate overrun) (overrun-cents rate overrun)
 
 -- cl. 9.3(b): the GJ by which a schedule is varied up; a downward change counts zero
 abbrev pub upward : Change → Gigajoules
@@ -57,7 +57,7 @@ variation-check rate receipt delivery =
     then keep (leb (delivery .new .0) most-gigajoules) 3
 
 abbrev pub variation-charge : Rate → Change → Change → Charge
-variation-charge rate receipt delivery = answer (variation-check rate receipt delivery) (variation-cents rate receipt delivery)
+variation-charge rate receipt delivery = charge-answer (variation-check rate receipt delivery) (variation-cents rate receipt delivery)
 
 -- cl. 9.5: rate / 1,000, rounded, then times the number of requests
 abbrev pub request-cents : Rate → ℕ → Cents
@@ -70,4 +70,4 @@ request-check rate requests =
     then keep (leb requests most-requests) 3
 
 abbrev pub request-charge : Rate → ℕ → Charge
-request-charge rate requests = answer (request-check rate requests) (request-cents rate requests)
+request-charge rate requests = charge-answer (request-check rate requests) (request-cents rate requests)

@@ -10,14 +10,14 @@ use Rattle.tariff.specs.declared.escalation.Escalation.{Escalation}
 use Rattle.tariff.specs.HalfUp.{half-up}
 
 -- the answer, from what the tests find and the rate where they accept
-abbrev pub answer : Check → Rate → Escalation
-answer Check.Accepted new = Escalation.Escalated new
-answer (Check.Refused x) new = Escalation.Refused x
+abbrev pub escalation-answer : Check → Rate → Escalation
+escalation-answer Check.Accepted new = Escalation.Escalated new
+escalation-answer (Check.Refused x) new = Escalation.Refused x
 
 -- 01's number, place and rate of each case
-abbrev pub verdict : Escalation → Verdict Rate
-verdict (Escalation.Escalated new) = accepting new
-verdict (Escalation.Refused x) = refusing x (record { 0 = 0 })
+abbrev pub escalation-verdict : Escalation → Verdict Rate
+escalation-verdict (Escalation.Escalated new) = accepting new
+escalation-verdict (Escalation.Refused x) = refusing x (record { 0 = 0 })
 
 -- old rate × new CPI / old CPI
 abbrev pub escalated-rate : Rate → ℕ → ℕ → Rate
@@ -33,4 +33,4 @@ escalation-check old new-cpi old-cpi =
     then keep (leb (escalated-rate old new-cpi old-cpi .0) most-rate) 8
 
 abbrev pub escalation : Rate → ℕ → ℕ → Escalation
-escalation old new-cpi old-cpi = answer (escalation-check old new-cpi old-cpi) (escalated-rate old new-cpi old-cpi)
+escalation old new-cpi old-cpi = escalation-answer (escalation-check old new-cpi old-cpi) (escalated-rate old new-cpi old-cpi)

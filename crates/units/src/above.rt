@@ -3,7 +3,18 @@ use crate::Megajoules;
 ghost use mathlib.Core.Path.{_≡_};
 ghost use mathlib.Core.Bool.{true};
 ghost use lib.ListN.{length};
+ghost use Rattle.columns.specs.Column.{col};
 ghost use Rattle.units.specs.Above.{first-above};
+
+// A row's gigajoules, zero past the list.
+pub fn gigajoules_at(figures: &[u32], row: usize) -> u32
+    ensures { λ r. ⌜ r ≡ col (now (figures .entry)) row ⌝ }
+{
+    if figures.len() <= row {
+        return 0;
+    }
+    figures[row]
+}
 
 // Whether no row's gigajoules are above the most allowed. All are looked at, and so several at once.
 fn gigajoules_keep(figures: &[u32], most: Gigajoules) -> bool

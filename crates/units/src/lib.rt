@@ -5,6 +5,7 @@ mod refusal;
 
 pub use above::first_gigajoules_above;
 pub use above::first_megajoules_above;
+pub use above::gigajoules_at;
 pub use bounds::MOST_BACKHAUL;
 pub use bounds::MOST_CAPACITY;
 pub use bounds::MOST_CHARGEABLE;
@@ -19,6 +20,7 @@ pub use bounds::MOST_SYSTEM_USE;
 pub use refusal::Check;
 pub use refusal::Refusal;
 ghost use mathlib.Core.Path.{_≡_};
+ghost use Prim.Native.Nat.{max};
 ghost use Rattle.units.specs.Unit.{thousandfold};
 
 // Whole gigajoules: MDQs, schedules and capacities of a day.
@@ -38,4 +40,14 @@ pub fn in_megajoules(energy: Gigajoules) -> Megajoules
     ensures { λ r. ⌜ r ≡ thousandfold energy ⌝ }
 {
     Megajoules(energy.0 as u64 * 1000)
+}
+
+// The greater of two.
+pub fn greater(one: Megajoules, other: Megajoules) -> Megajoules
+    ensures { λ r. ⌜ r .0 ≡ max (one .0) (other .0) ⌝ }
+{
+    if one.0 < other.0 {
+        return other;
+    }
+    one
 }

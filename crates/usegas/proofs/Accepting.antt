@@ -7,13 +7,13 @@ use borrow.Author.Tests.{leb-true, not-true}
 use Rattle.units.specs.declared.refusal.Check.{Check}
 use Rattle.units.specs.Bound.{most-system-use}
 use Rattle.units.proofs.Checks.{both-accepted, kept, all-within}
-use Rattle.usegas.specs.Rows.{Ready}
-use Rattle.usegas.specs.General.{check}
+use Rattle.usegas.specs.Private.{Ready}
+use Rattle.usegas.specs.General.{general-check}
 use Rattle.usegas.proofs.Scheduling.{some-schedule}
 
 pub accepting : (sug fssug foundation : ℕ) (schedules : List ℕ) (room : ℕ)
-    → check sug fssug foundation schedules room ≡ Check.Accepted → Ready sug fssug foundation schedules room
-unfolding check
+    → general-check sug fssug foundation schedules room ≡ Check.Accepted → Ready sug fssug foundation schedules room
+unfolding general-check
 accepting sug fssug foundation schedules room e =
     let lent = both-accepted _ _ e in
     let scheduled = both-accepted _ _ (lent .0) in

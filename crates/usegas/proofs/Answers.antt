@@ -6,15 +6,15 @@ use lib.ListN.{length}
 use Rattle.units.specs.declared.refusal.Refusal.{Refusal}
 use Rattle.units.specs.declared.refusal.Check.{Check}
 use Rattle.usegas.specs.declared.general.UseGas.{UseGas}
-use Rattle.usegas.specs.Rows.{Filled}
-use Rattle.usegas.specs.General.{check, Answered}
+use Rattle.usegas.specs.Private.{Filled}
+use Rattle.usegas.specs.General.{general-check, GasAnswered}
 
 module _ (sug fssug foundation : ℕ) (schedules lent : List ℕ) where
-  pub refuses : (x : Refusal) → check sug fssug foundation schedules (length lent) ≡ Check.Refused x
-      → Answered sug fssug foundation schedules lent (UseGas.Refused x) lent
+  pub refuses : (x : Refusal) → general-check sug fssug foundation schedules (length lent) ≡ Check.Refused x
+      → GasAnswered sug fssug foundation schedules lent (UseGas.Refused x) lent
   refuses x e = record { answers = rw e; leaves = rw e }
 
-  pub shares-out : (given : ℕ) (after : List ℕ) → check sug fssug foundation schedules (length lent) ≡ Check.Accepted
+  pub shares-out : (given : ℕ) (after : List ℕ) → general-check sug fssug foundation schedules (length lent) ≡ Check.Accepted
       → Filled (sug - fssug) foundation schedules lent given after
-      → Answered sug fssug foundation schedules lent (UseGas.Shared (record { 0 = given })) after
+      → GasAnswered sug fssug foundation schedules lent (UseGas.Shared (record { 0 = given })) after
   shares-out given after e F = record { answers = rw (e, F .adds); leaves = rw (e, F .front) }

@@ -10,13 +10,13 @@ use Rattle.usegas.specs.declared.general.UseGas.{UseGas}
 use Rattle.usegas.specs.declared.fuel.Imbalance.{Imbalance}
 use Rattle.usegas.specs.declared.fuel.ImbalanceFuel.{ImbalanceFuel}
 use Rattle.usegas.specs.Share.{none as nobody}
-use Rattle.usegas.specs.General.{check, given, answer, verdict, Answered}
-use Rattle.usegas.specs.Heater.{Heated}
+use Rattle.usegas.specs.General.{general-check, general-given, gas-answer, gas-verdict, GasAnswered}
+use Rattle.usegas.specs.Heater.{HeaterAnswered}
 use Rattle.usegas.specs.Fuel as Fuel
 
 pub general-numbered : (sug fssug foundation : ℕ) (schedules : List ℕ) (room : ℕ)
-    → AllNumbered (check sug fssug foundation schedules room)
-unfolding check
+    → AllNumbered (general-check sug fssug foundation schedules room)
+unfolding general-check
 general-numbered sug fssug foundation schedules room =
     none
     and kept-by _ 3 tt tt
@@ -29,20 +29,22 @@ general-numbered sug fssug foundation schedules room =
     and kept-by _ 7 tt tt
 
 pub general-decided : {sug fssug foundation : ℕ} {schedules lent after : List ℕ} {gas : UseGas}
-    → Answered sug fssug foundation schedules lent gas after
-    → Decided (check sug fssug foundation schedules (length lent)) (given sug fssug foundation schedules) (record { 0 = 0 }) (verdict gas)
+    → GasAnswered sug fssug foundation schedules lent gas after
+    → Decided (general-check sug fssug foundation schedules (length lent)) (general-given sug fssug foundation schedules)
+    (record { 0 = 0 }) (gas-verdict gas)
 general-decided {sug} {fssug} {foundation} {schedules} {lent} A =
-    decided answer verdict refl (λ refusal. refl) (general-numbered sug fssug foundation schedules (length lent)) (A .answers)
+    decided gas-answer gas-verdict refl (λ refusal. refl) (general-numbered sug fssug foundation schedules (length lent)) (A .answers)
 
 -- nobody is excepted, and FSSUG is zero
-pub heater-decided : {sug : ℕ} {schedules lent after : List ℕ} {gas : UseGas} → Heated sug schedules lent gas after
-    → Decided (check sug 0 nobody schedules (length lent)) (given sug 0 nobody schedules) (record { 0 = 0 }) (verdict gas)
+pub heater-decided : {sug : ℕ} {schedules lent after : List ℕ} {gas : UseGas} → HeaterAnswered sug schedules lent gas after
+    → Decided (general-check sug 0 nobody schedules (length lent)) (general-given sug 0 nobody schedules) (record { 0 = 0 })
+    (gas-verdict gas)
 heater-decided A = general-decided A
 
-pub fuel-numbered : (start end : Imbalance) (mdq : Gigajoules) → AllNumbered (Fuel.check start end mdq)
-unfolding Fuel.check
+pub fuel-numbered : (start end : Imbalance) (mdq : Gigajoules) → AllNumbered (Fuel.fuel-check start end mdq)
+unfolding Fuel.fuel-check
 fuel-numbered start end mdq = none and kept-by _ 3 tt tt and kept-by _ 3 tt tt and kept-by _ 3 tt tt
 
 pub fuel-decided : (start end : Imbalance) (mdq : Gigajoules) {fuel : ImbalanceFuel} → fuel ≡ Fuel.imbalance-fuel start end mdq
-    → Decided (Fuel.check start end mdq) (Fuel.fuel (Fuel.greatest start end) mdq) (record { 0 = 0 }) (Fuel.verdict fuel)
-fuel-decided start end mdq = decided Fuel.answer Fuel.verdict refl (λ refusal. refl) (fuel-numbered start end mdq)
+    → Decided (Fuel.fuel-check start end mdq) (Fuel.fuel (Fuel.greatest start end) mdq) (record { 0 = 0 }) (Fuel.fuel-verdict fuel)
+fuel-decided start end mdq = decided Fuel.fuel-answer Fuel.fuel-verdict refl (λ refusal. refl) (fuel-numbered start end mdq)

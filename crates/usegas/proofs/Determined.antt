@@ -4,13 +4,13 @@ use mathlib.Core.List.{List}
 use Prim.Native.Nat.{ℕ}
 use Rattle.units.proofs.Determined.{determined}
 use Rattle.usegas.specs.declared.general.UseGas.{UseGas}
-use Rattle.usegas.specs.General.{Answered}
-use Rattle.usegas.specs.Heater.{Heated}
+use Rattle.usegas.specs.General.{GasAnswered}
+use Rattle.usegas.specs.Heater.{HeaterAnswered}
 
 pub general-determined : {sug fssug foundation : ℕ} {schedules lent : List ℕ} {r₁ r₂ : UseGas} {l₁ l₂ : List ℕ}
-    → Answered sug fssug foundation schedules lent r₁ l₁ → Answered sug fssug foundation schedules lent r₂ l₂ → (r₁ ≡ r₂) × (l₁ ≡ l₂)
+    → GasAnswered sug fssug foundation schedules lent r₁ l₁ → GasAnswered sug fssug foundation schedules lent r₂ l₂ → (r₁ ≡ r₂) × (l₁ ≡ l₂)
 general-determined a b = (determined (a .answers) (b .answers), determined (a .leaves) (b .leaves))
 
 pub heater-determined : {sug : ℕ} {schedules lent : List ℕ} {r₁ r₂ : UseGas} {l₁ l₂ : List ℕ}
-    → Heated sug schedules lent r₁ l₁ → Heated sug schedules lent r₂ l₂ → (r₁ ≡ r₂) × (l₁ ≡ l₂)
+    → HeaterAnswered sug schedules lent r₁ l₁ → HeaterAnswered sug schedules lent r₂ l₂ → (r₁ ≡ r₂) × (l₁ ≡ l₂)
 heater-determined a b = general-determined a b

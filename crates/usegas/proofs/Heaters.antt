@@ -12,7 +12,7 @@ use Rattle.units.specs.declared.refusal.Check.{Check}
 use Rattle.units.specs.Bound.{most-system-use, most-gigajoules, most-rows}
 use Rattle.units.specs.Refusals.{_then_, keep, within}
 use Rattle.usegas.specs.Share.{none, beyond, weights, total, unscheduled}
-use Rattle.usegas.specs.General.{check}
+use Rattle.usegas.specs.General.{general-check}
 use Rattle.usegas.proofs.Shares.{weight-other}
 
 pub nobody-excepted : (schedules : List ℕ) → length schedules ≤ most-rows
@@ -34,13 +34,13 @@ passed Check.Accepted number e = rw e
 passed (Check.Refused x) number e = refl
 
 pub heater-check : (sug : ℕ) (schedules : List ℕ) (room : ℕ)
-    → check sug 0 none schedules room
+    → general-check sug 0 none schedules room
     ≡ (Check.Accepted
     then keep (leb sug most-system-use) 3
     then keep (leb (length schedules) most-rows) 3
     then within most-gigajoules schedules
     then keep (not (unscheduled sug (total none schedules))) 10
     then keep (leb (length schedules) room) 7)
-unfolding check
+unfolding general-check
 heater-check sug schedules room =
     rw (passed _ 3 (leb·zero most-system-use), passed _ 3 (ap not (none-placed (length schedules))), passed _ 11 (leb·zero sug), sub-zero)

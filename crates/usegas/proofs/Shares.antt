@@ -11,8 +11,8 @@ use Rattle.columns.specs.Column.{col}
 use Rattle.columns.proofs.Sums.{row-le-sum}
 use Rattle.units.specs.Bound.{most-system-use, most-gigajoules}
 use Rattle.sharing.proofs.Parts.{part-none, parts-spent}
-use Rattle.usegas.specs.Share.{weights, shares}
-use Rattle.usegas.specs.Rows.{Rows, Shareable}
+use Rattle.usegas.specs.Share.{weights, gas-shares}
+use Rattle.usegas.specs.Private.{Rows, Shareable}
 
 module _ (foundation : ℕ) (schedules : List ℕ) where
   pub weight-excepted : (i : ℕ) → i ≡ foundation → weights foundation schedules i ≡ 0
@@ -35,19 +35,19 @@ module _ (foundation : ℕ) (schedules : List ℕ) where
   weighed-small R i weight weighs l = rw weighs (weight-small R i l)
 
   -- the Foundation Shipper's share is zero
-  pub foundation-nothing : (net : ℕ) → shares foundation schedules net foundation ≡ 0
+  pub foundation-nothing : (net : ℕ) → gas-shares foundation schedules net foundation ≡ 0
   foundation-nothing net = rw (weight-excepted foundation refl, mul-zero, zero-div)
 
 -- what a leaf needs of a share, with the total that it is handed
 module _ {net t foundation : ℕ} {schedules : List ℕ} (S : Shareable net t foundation schedules) where
-  pub nothing-net : net ≡ 0 → (i : ℕ) → 0 ≡ shares foundation schedules net i
+  pub nothing-net : net ≡ 0 → (i : ℕ) → 0 ≡ gas-shares foundation schedules net i
   nothing-net none i = sym (part-none (length schedules) (weights foundation schedules) net none i)
 
-  pub by-schedule : (i : ℕ) → net * weights foundation schedules i / t ≡ shares foundation schedules net i
+  pub by-schedule : (i : ℕ) → net * weights foundation schedules i / t ≡ gas-shares foundation schedules net i
   by-schedule i = ap (λ t. net * weights foundation schedules i / t) (S .added)
 
   -- no share is above the net gas, nor its bound
-  pub share-most : (i : ℕ) → i < length schedules → shares foundation schedules net i ≤ most-system-use
+  pub share-most : (i : ℕ) → i < length schedules → gas-shares foundation schedules net i ≤ most-system-use
   share-most i l =
       let all = parts-spent (length schedules) (weights foundation schedules) net (S .scheduled) in
-      omega (arith, row-le-sum (length schedules) (shares foundation schedules net) i l)
+      omega (arith, row-le-sum (length schedules) (gas-shares foundation schedules net) i l)

@@ -6,24 +6,24 @@ use lib.ListN.{length}
 use Rattle.columns.proofs.Lists.{made-row, made-sum, made-rest}
 use Rattle.sharing.proofs.Parts.{parts-spent, parts-left}
 use Rattle.usegas.specs.declared.general.UseGas.{UseGas}
-use Rattle.usegas.specs.Share.{none, weights, shares}
-use Rattle.usegas.specs.General.{verdict, Answered}
-use Rattle.usegas.specs.Heater.{Heated}
-use Rattle.usegas.specs.Promise.{Kept}
+use Rattle.usegas.specs.Share.{none, weights, gas-shares}
+use Rattle.usegas.specs.General.{gas-verdict, GasAnswered}
+use Rattle.usegas.specs.Heater.{HeaterAnswered}
+use Rattle.usegas.specs.Promise.{GasKept}
 use Rattle.usegas.proofs.Shares.{foundation-nothing}
 use Rattle.usegas.proofs.Accepting.{accepting}
 use Rattle.usegas.proofs.Decided.{general-decided}
 
 pub general-kept : {sug fssug foundation : ℕ} {schedules lent after : List ℕ} {gas : UseGas}
-    → Answered sug fssug foundation schedules lent gas after → verdict gas .number ≡ 0
-    → Kept sug fssug foundation schedules lent gas after
+    → GasAnswered sug fssug foundation schedules lent gas after → gas-verdict gas .number ≡ 0
+    → GasKept sug fssug foundation schedules lent gas after
 general-kept {sug} {fssug} {foundation} {schedules} {lent} {after} A zero =
     let accepted = general-decided A .exactly zero in
     let told = general-decided A .accepted accepted .2 in
     let ready = accepting sug fssug foundation schedules (length lent) accepted in
     let n = length schedules in
     let net = sug - fssug in
-    let given = shares foundation schedules net in
+    let given = gas-shares foundation schedules net in
     let scheduled = ready .shareable .scheduled in
     let is = rw accepted at (A .leaves) in
     record {
@@ -35,6 +35,6 @@ general-kept {sug} {fssug} {foundation} {schedules} {lent} {after} A zero =
     }
 
 -- nobody is excepted, and FSSUG is zero
-pub heater-kept : {sug : ℕ} {schedules lent after : List ℕ} {gas : UseGas} → Heated sug schedules lent gas after
-    → verdict gas .number ≡ 0 → Kept sug 0 none schedules lent gas after
+pub heater-kept : {sug : ℕ} {schedules lent after : List ℕ} {gas : UseGas} → HeaterAnswered sug schedules lent gas after
+    → gas-verdict gas .number ≡ 0 → GasKept sug 0 none schedules lent gas after
 heater-kept A zero = general-kept A zero

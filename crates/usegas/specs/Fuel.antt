@@ -17,8 +17,8 @@ abbrev pub bounded-size : ℤ → Bool
 bounded-size imbalance = leb (natAbs imbalance) most-imbalance
 
 -- refused: 3 the imbalance at start and at end of day, the MDQ
-unfoldable pub check : Imbalance → Imbalance → Gigajoules → Check
-check start end mdq =
+unfoldable pub fuel-check : Imbalance → Imbalance → Gigajoules → Check
+fuel-check start end mdq =
     Check.Accepted
     then keep (bounded-size (start .0)) 3
     then keep (bounded-size (end .0)) 3
@@ -37,14 +37,14 @@ greatest start end = record { 0 = max (positive (start .0)) (positive (end .0)) 
 abbrev pub fuel : Megajoules → Gigajoules → Megajoules
 fuel pi mdq = record { 0 = (pi .0 - 80 * mdq .0) / 100 }
 
-abbrev pub answer : Check → Megajoules → ImbalanceFuel
-answer Check.Accepted gas = ImbalanceFuel.Supplied gas
-answer (Check.Refused x) gas = ImbalanceFuel.Refused x
+abbrev pub fuel-answer : Check → Megajoules → ImbalanceFuel
+fuel-answer Check.Accepted gas = ImbalanceFuel.Supplied gas
+fuel-answer (Check.Refused x) gas = ImbalanceFuel.Refused x
 
 abbrev pub imbalance-fuel : Imbalance → Imbalance → Gigajoules → ImbalanceFuel
-imbalance-fuel start end mdq = answer (check start end mdq) (fuel (greatest start end) mdq)
+imbalance-fuel start end mdq = fuel-answer (fuel-check start end mdq) (fuel (greatest start end) mdq)
 
 -- 01's number, place and figure of each case
-abbrev pub verdict : ImbalanceFuel → Verdict Megajoules
-verdict (ImbalanceFuel.Supplied gas) = accepting gas
-verdict (ImbalanceFuel.Refused x) = refusing x (record { 0 = 0 })
+abbrev pub fuel-verdict : ImbalanceFuel → Verdict Megajoules
+fuel-verdict (ImbalanceFuel.Supplied gas) = accepting gas
+fuel-verdict (ImbalanceFuel.Refused x) = refusing x (record { 0 = 0 })

@@ -14,11 +14,11 @@ use Rattle.units.specs.Bound.{most-system-use, most-gigajoules, most-rows}
 use Rattle.units.specs.Refusals.{_then_, keep, within, accepted-or}
 use Rattle.units.specs.Verdict.{Verdict, accepting, refusing}
 use Rattle.usegas.specs.declared.general.UseGas.{UseGas}
-use Rattle.usegas.specs.Share.{beyond, total, unscheduled, shares}
+use Rattle.usegas.specs.Share.{beyond, total, unscheduled, gas-shares}
 
 -- refused: 3 SUG, FSSUG, the count, the Foundation Shipper's place, a schedule; 11 FSSUG above SUG; 10 no schedule; 7 the lent list
-unfoldable pub check : ℕ → ℕ → ℕ → List ℕ → ℕ → Check
-check sug fssug foundation schedules room =
+unfoldable pub general-check : ℕ → ℕ → ℕ → List ℕ → ℕ → Check
+general-check sug fssug foundation schedules room =
     Check.Accepted
     then keep (leb sug most-system-use) 3
     then keep (leb fssug most-system-use) 3
@@ -30,22 +30,22 @@ check sug fssug foundation schedules room =
     then keep (leb (length schedules) room) 7
 
 -- what the shippers supply together
-abbrev pub given : ℕ → ℕ → ℕ → List ℕ → Megajoules
-given sug fssug foundation schedules = record { 0 = sum (length schedules) (shares foundation schedules (sug - fssug)) }
+abbrev pub general-given : ℕ → ℕ → ℕ → List ℕ → Megajoules
+general-given sug fssug foundation schedules = record { 0 = sum (length schedules) (gas-shares foundation schedules (sug - fssug)) }
 
-abbrev pub answer : Check → Megajoules → UseGas
-answer Check.Accepted g = UseGas.Shared g
-answer (Check.Refused x) g = UseGas.Refused x
+abbrev pub gas-answer : Check → Megajoules → UseGas
+gas-answer Check.Accepted g = UseGas.Shared g
+gas-answer (Check.Refused x) g = UseGas.Refused x
 
 -- 01's number, place and figure of each case
-abbrev pub verdict : UseGas → Verdict Megajoules
-verdict (UseGas.Shared g) = accepting g
-verdict (UseGas.Refused x) = refusing x (record { 0 = 0 })
+abbrev pub gas-verdict : UseGas → Verdict Megajoules
+gas-verdict (UseGas.Shared g) = accepting g
+gas-verdict (UseGas.Refused x) = refusing x (record { 0 = 0 })
 
 -- the statement of `share_general`: its answer, and the lent list before and after
-pub record Answered (sug fssug foundation : ℕ) (schedules lent : List ℕ) (gas : UseGas) (after : List ℕ) : Type 0 where
-  pub answers : gas ≡ answer (check sug fssug foundation schedules (length lent)) (given sug fssug foundation schedules)
+pub record GasAnswered (sug fssug foundation : ℕ) (schedules lent : List ℕ) (gas : UseGas) (after : List ℕ) : Type 0 where
+  pub answers : gas ≡ gas-answer (general-check sug fssug foundation schedules (length lent)) (general-given sug fssug foundation schedules)
   pub leaves :
       after
-      ≡ accepted-or (check sug fssug foundation schedules (length lent))
-      (sets lent 0 (listed (length schedules) (shares foundation schedules (sug - fssug)))) lent
+      ≡ accepted-or (general-check sug fssug foundation schedules (length lent))
+      (sets lent 0 (listed (length schedules) (gas-shares foundation schedules (sug - fssug)))) lent

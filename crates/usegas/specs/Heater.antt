@@ -3,8 +3,8 @@ use mathlib.Core.List.{List}
 use Prim.Native.Nat.{ℕ}
 use Rattle.usegas.specs.declared.general.UseGas.{UseGas}
 use Rattle.usegas.specs.Share.{none}
-use Rattle.usegas.specs.General.{Answered}
+use Rattle.usegas.specs.General.{GasAnswered}
 
 -- the statement of `share_heater`
-abbrev pub Heated : ℕ → List ℕ → List ℕ → UseGas → List ℕ → Type 0
-Heated sug schedules lent gas after = Answered sug 0 none schedules lent gas after
+abbrev pub HeaterAnswered : ℕ → List ℕ → List ℕ → UseGas → List ℕ → Type 0
+HeaterAnswered sug schedules lent gas after = GasAnswered sug 0 none schedules lent gas after

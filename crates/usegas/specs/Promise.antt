@@ -6,15 +6,15 @@ use lib.ListN.{length, take, drop}
 use Rattle.columns.specs.Column.{col}
 use Rattle.columns.specs.Sum.{sum}
 use Rattle.usegas.specs.declared.general.UseGas.{UseGas}
-use Rattle.usegas.specs.General.{verdict}
+use Rattle.usegas.specs.General.{gas-verdict}
 
-pub record Kept (sug fssug foundation : ℕ) (schedules lent : List ℕ) (gas : UseGas) (after : List ℕ) : Type 0 where
+pub record GasKept (sug fssug foundation : ℕ) (schedules lent : List ℕ) (gas : UseGas) (after : List ℕ) : Type 0 where
   -- the figure is what the shares at the front come to
-  pub total : verdict gas .figures .0 ≡ sum (length schedules) (col (take (length schedules) after))
+  pub total : gas-verdict gas .figures .0 ≡ sum (length schedules) (col (take (length schedules) after))
   -- they never pass the net gas
-  pub most : verdict gas .figures .0 ≤ sug - fssug
+  pub most : gas-verdict gas .figures .0 ≤ sug - fssug
   -- and fall short of it, where it is above zero, by fewer MJ than there are rows
-  pub short : 0 < sug - fssug → sug - fssug < verdict gas .figures .0 + length schedules
+  pub short : 0 < sug - fssug → sug - fssug < gas-verdict gas .figures .0 + length schedules
   -- the Foundation Shipper's share is zero
   pub excepted : foundation < length schedules → col (take (length schedules) after) foundation ≡ 0
   -- the rest of the list is as it was

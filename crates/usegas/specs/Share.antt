@@ -28,5 +28,5 @@ unfoldable pub unscheduled : ℕ → ℕ → Bool
 unscheduled net total = ltb 0 net && eqb total 0
 
 -- schedule / total × net gas, rounded down to an MJ
-abbrev pub shares : ℕ → List ℕ → ℕ → ℕ → ℕ
-shares foundation schedules net i = part (length schedules) (weights foundation schedules) net i
+abbrev pub gas-shares : ℕ → List ℕ → ℕ → ℕ → ℕ
+gas-shares foundation schedules net i = part (length schedules) (weights foundation schedules) net i

@@ -6,7 +6,7 @@ use units::MOST_ROWS;
 use units::MOST_SYSTEM_USE;
 ghost use mathlib.Core.Path.{_≡_};
 ghost use Rattle.usegas.specs.Share.{beyond};
-ghost use Rattle.usegas.specs.General.{check};
+ghost use Rattle.usegas.specs.General.{general-check};
 
 // Whether the Foundation Shipper's place is no row and not the one for none.
 fn is_beyond(foundation: usize, rows: usize) -> bool
@@ -20,7 +20,7 @@ fn is_beyond(foundation: usize, rows: usize) -> bool
 
 // The first of the tests that the input fails, with room for so many shares.
 pub fn examine(gas: u64, supplied: u64, foundation: usize, schedules: &[u32], room: usize) -> Check
-    ensures { λ r. ⌜ r ≡ check gas supplied foundation (now (schedules .entry)) room ⌝ }
+    ensures { λ r. ⌜ r ≡ general-check gas supplied foundation (now (schedules .entry)) room ⌝ }
 {
     Check::Accepted
         .keep(gas <= MOST_SYSTEM_USE.0, 3)

@@ -1,7 +1,7 @@
 use crate::share::share_at;
 ghost use Prim.Native.Nat.{_≤_};
 ghost use lib.ListN.{length};
-ghost use Rattle.usegas.specs.Rows.{Shareable, Filled};
+ghost use Rattle.usegas.specs.Private.{Shareable, Filled};
 
 // Writes each shipper's share to the front of `shares`, and returns what they supply together.
 pub fn fill(net: u64, total: u32, foundation: usize, schedules: &[u32], shares: &mut [u64]) -> u64

@@ -4,9 +4,9 @@ use units::MOST_GIGAJOULES;
 use units::MOST_IMBALANCE;
 use units::Megajoules;
 use units::Refusal;
+use units::greater;
 ghost use mathlib.Core.Path.{_≡_};
-ghost use Prim.Native.Nat.{max};
-ghost use Rattle.usegas.specs.Fuel.{bounded-size, check, positive, fuel, imbalance-fuel};
+ghost use Rattle.usegas.specs.Fuel.{bounded-size, fuel-check, positive, fuel, imbalance-fuel};
 
 // A shipper's accumulated imbalance in megajoules, either way.
 pub struct Imbalance(pub i64);
@@ -53,19 +53,9 @@ fn fuel(imbalance: Megajoules, mdq: Gigajoules) -> Megajoules
     Megajoules((imbalance.0 - allowed) / 100)
 }
 
-// The greater of the two.
-fn greater(first: Megajoules, last: Megajoules) -> Megajoules
-    ensures { λ r. ⌜ r .0 ≡ max (first .0) (last .0) ⌝ }
-{
-    if first.0 < last.0 {
-        return last;
-    }
-    first
-}
-
 // The first of the tests that the input fails.
 fn examine(start: Imbalance, end: Imbalance, mdq: Gigajoules) -> Check
-    ensures { λ r. ⌜ r ≡ check start end mdq ⌝ }
+    ensures { λ r. ⌜ r ≡ fuel-check start end mdq ⌝ }
 {
     Check::Accepted
         .keep(is_bounded(start), 3)

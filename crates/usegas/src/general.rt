@@ -4,8 +4,8 @@ use crate::weight::total_up;
 use units::Check;
 use units::Megajoules;
 use units::Refusal;
-ghost use Rattle.usegas.specs.General.{Answered};
-ghost use Rattle.usegas.specs.Heater.{Heated};
+ghost use Rattle.usegas.specs.General.{GasAnswered};
+ghost use Rattle.usegas.specs.Heater.{HeaterAnswered};
 
 // The place of the Foundation Shipper where no row is its own.
 pub const NO_FOUNDATION: usize = 255;
@@ -25,7 +25,7 @@ pub fn share_general(
     schedules: &[u32],
     shares: &mut [u64],
 ) -> UseGas
-    ensures { λ r. ⌜ Answered (gas .0) (supplied .0) foundation (now (schedules .entry)) (now (shares .entry)) r (now (shares .exit)) ⌝ }
+    ensures { λ r. ⌜ GasAnswered (gas .0) (supplied .0) foundation (now (schedules .entry)) (now (shares .entry)) r (now (shares .exit)) ⌝ }
 {
     let found = examine(gas.0, supplied.0, foundation, schedules, shares.len());
     match found {
@@ -41,7 +41,7 @@ pub fn share_general(
 
 // Cl. 4.5: the same rule with nobody excepted.
 pub fn share_heater(gas: Megajoules, schedules: &[u32], shares: &mut [u64]) -> UseGas
-    ensures { λ r. ⌜ Heated (gas .0) (now (schedules .entry)) (now (shares .entry)) r (now (shares .exit)) ⌝ }
+    ensures { λ r. ⌜ HeaterAnswered (gas .0) (now (schedules .entry)) (now (shares .entry)) r (now (shares .exit)) ⌝ }
 {
     share_general(gas, Megajoules(0), NO_FOUNDATION, schedules, shares)
 }

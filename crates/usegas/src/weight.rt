@@ -2,7 +2,7 @@ ghost use mathlib.Core.Path.{_≡_};
 ghost use Prim.Native.Nat.{_-_, _<_};
 ghost use lib.ListN.{length};
 ghost use Rattle.usegas.specs.Share.{weights, total, unscheduled};
-ghost use Rattle.usegas.specs.Rows.{Rows};
+ghost use Rattle.usegas.specs.Private.{Rows};
 
 // A row's schedule, and none of the Foundation Shipper's.
 pub fn weight_at(foundation: usize, schedules: &[u32], row: usize) -> u32

@@ -1,5 +1,5 @@
 // A line of the answers: 01's number and place, the figures where it is accepted, and each lent list or block whole.
-use crate::case::smaller;
+use columns::lesser;
 use units::Check;
 use units::Refusal;
 
@@ -46,13 +46,13 @@ pub fn put_check(check: Check) {
 pub fn put_hours(lent: &[u64; MOST_ROWS], room: usize) {
     let hours = &lent[..];
     io::write_all(1, b" :");
-    put_figures(&hours[0..smaller(room, MOST_ROWS)]);
+    put_figures(&hours[0..lesser(room, MOST_ROWS)]);
 }
 
 // The same of gigajoules.
 pub fn put_rows(lent: &[u32; MOST_ROWS], room: usize) {
     io::write_all(1, b" :");
-    for row in 0..smaller(room, MOST_ROWS) {
+    for row in 0..lesser(room, MOST_ROWS) {
         put_row(lent[row]);
     }
 }
@@ -65,7 +65,7 @@ fn put_row(gigajoules: u32) {
 // The same of a block of bytes, in hexadecimal.
 pub fn put_block(lent: &[u8; MOST_BYTES], room: usize) {
     io::write_all(1, b" :");
-    for place in 0..smaller(room, MOST_BYTES) {
+    for place in 0..lesser(room, MOST_BYTES) {
         put_byte(lent[place]);
     }
 }

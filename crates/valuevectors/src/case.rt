@@ -1,15 +1,4 @@
 // A case as bytes, four to a word. What lies past its end is zero, or nothing.
-ghost use Prim.Native.Nat.{_≤_};
-
-// The smaller of a count and the most that there may be.
-pub fn smaller(count: usize, most: usize) -> usize
-    ensures { λ r. ⌜ r ≤ most ⌝ }
-{
-    if count < most {
-        return count;
-    }
-    most
-}
 
 pub fn word(case: &[u8], place: usize) -> u32 {
     bigendian::number_at(past(case, place), 0, 4)

@@ -2,9 +2,9 @@
 use crate::case::bytes;
 use crate::case::past;
 use crate::case::past_bytes;
-use crate::case::smaller;
 use crate::case::wide;
 use crate::case::word;
+use columns::lesser;
 use dayformat::Counts;
 use dayformat::Day;
 use dayformat::Head;
@@ -34,7 +34,7 @@ pub fn day_of(case: &[u8]) -> Day {
 pub fn length_of(case: &[u8]) -> usize
     ensures { λ r. ⌜ r ≤ 6881 ⌝ }
 {
-    smaller(word(case, 7) as usize, MOST_NUMBERS)
+    lesser(word(case, 7) as usize, MOST_NUMBERS)
 }
 
 pub fn numbers_of(case: &[u8]) -> [usize; MOST_NUMBERS] {

@@ -1,15 +1,15 @@
 // The routines on a day in memory, run on cases of the second program: each case is read from standard input, its answer printed on a line.
 mod answers;
 mod case;
-mod columns;
 mod day;
 mod meters;
 mod rows;
+mod shippers;
 mod texts;
 
 use case::past;
-use case::smaller;
 use case::word;
+use columns::lesser;
 use day::day_of;
 use day::length_of;
 use day::numbers_of;
@@ -33,7 +33,7 @@ fn answer_next() -> bool {
     if io::read_full(0, &mut head) < 4 {
         return false;
     }
-    let size = 4 * smaller(word(&head, 0) as usize, MOST_WORDS);
+    let size = 4 * lesser(word(&head, 0) as usize, MOST_WORDS);
     let mut body = io::large_buffer();
     answer_read(&mut body[0..size]);
     true
@@ -73,9 +73,9 @@ fn answer_numbers(routine: u32, day: Day, numbers: &[usize], given: &[u8]) {
         2 => rows::answer_row(counts, numbers, given),
         3 => rows::answer_shipper(counts, numbers, given),
         4 => rows::answer_point(counts, numbers, given),
-        5 => columns::answer_check(counts, numbers, given),
-        6 => columns::answer_column(counts, numbers, given),
-        7 => columns::answer_shares(day, numbers, given),
+        5 => shippers::answer_check(counts, numbers, given),
+        6 => shippers::answer_column(counts, numbers, given),
+        7 => shippers::answer_shares(day, numbers, given),
         8 => meters::answer_check(counts, numbers, given),
         9 => meters::answer_figures(counts, numbers, given),
         10 => meters::answer_yesterday(counts, numbers, given),

@@ -4,9 +4,12 @@ use crate::answers::MOST_ROWS;
 use crate::answers::put_check;
 use crate::answers::put_figures;
 use crate::answers::put_hours;
-use crate::case::smaller;
+use crate::answers::put_refusal;
 use crate::case::word;
+use columns::lesser;
 use dayformat::Counts;
+use daymeters::MeterFigures;
+use daymeters::MeterRow;
 use metered::Side;
 use units::Megajoules;
 
@@ -17,8 +20,15 @@ pub fn answer_check(counts: Counts, numbers: &[usize], given: &[u8]) {
 }
 
 pub fn answer_figures(counts: Counts, numbers: &[usize], given: &[u8]) {
-    let meter = daymeters::meter_figures(counts, numbers, word(given, 0));
+    let row = daymeters::meter_figures(counts, numbers, word(given, 0));
     io::write_all(1, b"meter_figures");
+    match row {
+        MeterRow::Refused(refusal) => put_refusal(refusal),
+        MeterRow::Meter(meter) => put_meter(meter),
+    }
+}
+
+fn put_meter(meter: MeterFigures) {
     put_figures(
         &[
             0,
@@ -55,13 +65,13 @@ pub fn answer_hours(counts: Counts, numbers: &[usize], given: &[u8]) {
     let hours = daymeters::meter_hours(counts, numbers, word(given, 0));
     io::write_all(1, b"meter_hours");
     put_figures(&[0, 0]);
-    put_figures(&metered::figures(hours[0]));
-    put_figures(&metered::figures(hours[1]));
+    put_figures(&metered::bare_hours(hours[0]));
+    put_figures(&metered::bare_hours(hours[1]));
 }
 
 pub fn answer_delivered(counts: Counts, numbers: &[usize], given: &[u8]) {
     let mut lent = [LENT_HOUR; MOST_ROWS];
-    let room = smaller(word(given, 1) as usize, MOST_ROWS);
+    let room = lesser(word(given, 1) as usize, MOST_ROWS);
     let check = daymeters::meter_delivered(counts, numbers, word(given, 0), &mut lent[0..room]);
     io::write_all(1, b"meter_delivered");
     put_check(check);

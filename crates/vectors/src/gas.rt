@@ -8,9 +8,9 @@ use crate::words::megajoules_of;
 use crate::words::past;
 use crate::words::past_list;
 use crate::words::signed;
-use crate::words::smaller;
 use crate::words::wide;
 use crate::words::word;
+use columns::lesser;
 use pointshares::Hour;
 use units::Gigajoules;
 use units::Megajoules;
@@ -23,11 +23,11 @@ const LENT: u64 = 4_000_000_000;
 
 pub fn answer_hour(case: &[u32]) {
     let mut shares = [LENT; MOST_ROWS];
-    let room = smaller(word(case, 2) as usize, MOST_ROWS);
+    let room = lesser(word(case, 2) as usize, MOST_ROWS);
     let entitlements = past(case, 3);
     let pairs = list(entitlements);
     let figures = megajoules_of(pairs);
-    let rows = smaller(pairs.len() / 2, MOST_ROWS);
+    let rows = lesser(pairs.len() / 2, MOST_ROWS);
     let hour = pointshares::share_hour(
         Megajoules(wide(case, 0)),
         &figures[0..rows],
@@ -46,7 +46,7 @@ pub fn answer_hour(case: &[u32]) {
 
 pub fn answer_general(case: &[u32]) {
     let mut shares = [LENT; MOST_ROWS];
-    let room = smaller(word(case, 6) as usize, MOST_ROWS);
+    let room = lesser(word(case, 6) as usize, MOST_ROWS);
     let gas = usegas::share_general(
         Megajoules(wide(case, 0)),
         Megajoules(wide(case, 2)),
@@ -61,7 +61,7 @@ pub fn answer_general(case: &[u32]) {
 
 pub fn answer_heater(case: &[u32]) {
     let mut shares = [LENT; MOST_ROWS];
-    let room = smaller(word(case, 2) as usize, MOST_ROWS);
+    let room = lesser(word(case, 2) as usize, MOST_ROWS);
     let gas = usegas::share_heater(
         Megajoules(wide(case, 0)),
         list(past(case, 3)),

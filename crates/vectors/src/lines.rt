@@ -1,6 +1,6 @@
 // A line of the answers: 01's number and place, the figures where it is accepted, and each lent list whole.
 use crate::words::MOST_ROWS;
-use crate::words::smaller;
+use columns::lesser;
 use units::Refusal;
 
 fn put(figure: u64) {
@@ -22,7 +22,7 @@ pub fn put_refusal(refusal: Refusal) {
 // A lent list as it is after the call.
 pub fn put_gigajoules(lent: &[u32; MOST_ROWS], room: usize) {
     io::write_all(1, b" :");
-    for row in 0..smaller(room, MOST_ROWS) {
+    for row in 0..lesser(room, MOST_ROWS) {
         put(figure_of(lent[row]));
     }
 }
@@ -30,7 +30,7 @@ pub fn put_gigajoules(lent: &[u32; MOST_ROWS], room: usize) {
 // The same of megajoules.
 pub fn put_megajoules(lent: &[u64; MOST_ROWS], room: usize) {
     io::write_all(1, b" :");
-    for row in 0..smaller(room, MOST_ROWS) {
+    for row in 0..lesser(room, MOST_ROWS) {
         put(lent[row]);
     }
 }

@@ -6,9 +6,9 @@ mod meters;
 mod shares;
 mod words;
 
+use columns::lesser;
 use words::MOST_WORDS;
 use words::past;
-use words::smaller;
 use words::word;
 use words::words_of;
 
@@ -26,7 +26,7 @@ fn answer_next() -> bool {
     if io::read_full(0, &mut head) < 4 {
         return false;
     }
-    let count = smaller(bigendian::number_at(&head, 0, 4) as usize, MOST_WORDS);
+    let count = lesser(bigendian::number_at(&head, 0, 4) as usize, MOST_WORDS);
     let mut body = [0u8; 4 * MOST_WORDS];
     io::read_full(0, &mut body[0..4 * count]);
     let words = words_of(&body);

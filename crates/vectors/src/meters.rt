@@ -5,9 +5,9 @@ use crate::words::MOST_ROWS;
 use crate::words::list;
 use crate::words::megajoules_of;
 use crate::words::past;
-use crate::words::smaller;
 use crate::words::wide;
 use crate::words::word;
+use columns::lesser;
 use metered::Side;
 use overruns::DailyOverruns;
 use overruns::DayOverruns;
@@ -68,7 +68,7 @@ pub fn answer_hourly(case: &[u32]) {
 pub fn answer_twelve_hourly(case: &[u32]) {
     let pairs = list(past(case, 2));
     let figures = megajoules_of(pairs);
-    let hours = smaller(pairs.len() / 2, MOST_ROWS);
+    let hours = lesser(pairs.len() / 2, MOST_ROWS);
     let overrun = overruns::twelve_hourly_overrun(
         Gigajoules(word(case, 0)),
         Gigajoules(word(case, 1)),

@@ -6,8 +6,8 @@ use crate::words::MOST_ROWS;
 use crate::words::list;
 use crate::words::past;
 use crate::words::past_list;
-use crate::words::smaller;
 use crate::words::word;
+use columns::lesser;
 use dayshares::Day;
 use dayshares::Shares;
 use rounds::Round;
@@ -18,7 +18,7 @@ const LENT: u32 = 4_000_000_000;
 
 pub fn answer_round(case: &[u32]) {
     let mut shares = [LENT; MOST_ROWS];
-    let room = smaller(word(case, 1) as usize, MOST_ROWS);
+    let room = lesser(word(case, 1) as usize, MOST_ROWS);
     let weights = past(case, 2);
     let needs = past_list(weights);
     let round = rounds::share_round(
@@ -41,9 +41,9 @@ pub fn answer_day(case: &[u32]) {
     let mut firm = [LENT; MOST_ROWS];
     let mut auction = [LENT; MOST_ROWS];
     let mut lower_tier = [LENT; MOST_ROWS];
-    let firm_room = smaller(word(case, 2) as usize, MOST_ROWS);
-    let auction_room = smaller(word(case, 3) as usize, MOST_ROWS);
-    let lower_tier_room = smaller(word(case, 4) as usize, MOST_ROWS);
+    let firm_room = lesser(word(case, 2) as usize, MOST_ROWS);
+    let auction_room = lesser(word(case, 3) as usize, MOST_ROWS);
+    let lower_tier_room = lesser(word(case, 4) as usize, MOST_ROWS);
     let day = share_day(
         case,
         &mut firm[0..firm_room],

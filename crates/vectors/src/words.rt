@@ -1,21 +1,10 @@
 // A case as words of 32 bits. What lies past its end is zero, or no list.
-ghost use Prim.Native.Nat.{_≤_};
 
 // No case has more words.
 pub const MOST_WORDS: usize = 512;
 
 // No list has more rows, and no lent list more room: one more than a list of shippers may have.
 pub const MOST_ROWS: usize = 65;
-
-// The smaller of a count and the most that there may be.
-pub fn smaller(count: usize, most: usize) -> usize
-    ensures { λ r. ⌜ r ≤ most ⌝ }
-{
-    if count < most {
-        return count;
-    }
-    most
-}
 
 // The words that a case's bytes spell.
 pub fn words_of(body: &[u8; 4 * MOST_WORDS]) -> [u32; MOST_WORDS] {

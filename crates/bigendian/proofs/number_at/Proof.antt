@@ -26,22 +26,22 @@ turn c =
       place = now .loop .place;
       number = now .loop .number;
       are = λ i. known .shared-slice-known .given i .fits;
-      there = omega (arith, cut .smaller2 .ensures);
-      few = omega (arith, cut .smaller2 .ensures, cut .before .smaller .ensures);
+      there = omega (arith, cut .lesser2 .ensures);
+      few = omega (arith, cut .lesser2 .ensures, cut .before .lesser .ensures);
       read = now .loop .inv .1;
     }
 
 returns : tie.Need-returns Inv-loop μ-loop
 returns c = let args = c .before .before .args in reading-past (args .file .now) (args .at) (args .width) (c .if1 .taken)
 
-smaller-requires : tie.Need-smaller-requires Inv-loop μ-loop
-smaller-requires c κs = search needs
+lesser-requires : tie.Need-lesser-requires Inv-loop μ-loop
+lesser-requires c κs = search needs
 
-sub-smaller : tie.Need-sub-smaller Inv-loop μ-loop
-sub-smaller c = search needs
+sub-lesser : tie.Need-sub-lesser Inv-loop μ-loop
+sub-lesser c = search needs
 
-smaller-requires-2 : tie.Need-smaller-requires-2 Inv-loop μ-loop
-smaller-requires-2 c κs = search needs
+lesser-requires-2 : tie.Need-lesser-requires-2 Inv-loop μ-loop
+lesser-requires-2 c κs = search needs
 
 add-four-of : tie.Need-add-four-of Inv-loop μ-loop
 add-four-of c = search needs
@@ -59,14 +59,14 @@ four-of-requires : tie.Need-four-of-requires Inv-loop μ-loop
 four-of-requires c κs =
     let cut = c .before .before in
     let args = cut .before .before .before .before .args in
-    part-long (args .file .now) (args .at) _ (omega (arith, cut .smaller2 .ensures)) (c .before .if2 .taken)
+    part-long (args .file .now) (args .at) _ (omega (arith, cut .lesser2 .ensures)) (c .before .if2 .taken)
 
 returns-2 : tie.Need-returns-2 Inv-loop μ-loop
 returns-2 c =
     let cut = c .before .before .before in
     let args = cut .before .before .before .before .args in
     reading-all (args .file .now) (args .at) (args .width) _ _ _
-    (cut .before .smaller .ensures) (cut .smaller2 .ensures) (part-value (args .file .now) (args .at) _ (c .four-of .ensures))
+    (cut .before .lesser .ensures) (cut .lesser2 .ensures) (part-value (args .file .now) (args .at) _ (c .four-of .ensures))
 
 loop-holds : tie.Need-loop-holds Inv-loop μ-loop
 loop-holds c =
@@ -102,7 +102,7 @@ returns-3 c =
     let cut = c .before .before .before in
     let args = cut .before .before .before .before .args in
     reading-all (args .file .now) (args .at) (args .width) _ (c .before .loop .place) _
-    (cut .before .smaller .ensures) (omega (arith, cut .smaller2 .ensures)) (c .before .loop .inv .1)
+    (cut .before .lesser .ensures) (omega (arith, cut .lesser2 .ensures)) (c .before .loop .inv .1)
 
 pub number-at-spec : {M : Type 1} → statement M
 number-at-spec =
@@ -111,9 +111,9 @@ number-at-spec =
     Inv-loop
     μ-loop
     returns
-    smaller-requires
-    sub-smaller
-    smaller-requires-2
+    lesser-requires
+    sub-lesser
+    lesser-requires-2
     add-four-of
     sub-four-of
     part-four-of-start

@@ -14,11 +14,11 @@ Inv-loop number width block₀ at place₀ rest₀ block place rest =
 abbrev μ-loop : tie.MeasureT-loop
 μ-loop number width block₀ at place₀ rest₀ block place rest = place
 
-smaller-requires : tie.Need-smaller-requires Inv-loop μ-loop
-smaller-requires c κs = search needs
+lesser-requires : tie.Need-lesser-requires Inv-loop μ-loop
+lesser-requires c κs = search needs
 
 loop-holds : tie.Need-loop-holds Inv-loop μ-loop
-loop-holds c = rw (c .smaller .ensures) laying-none
+loop-holds c = rw (c .lesser .ensures) laying-none
 
 sub-place : tie.Need-sub-place Inv-loop μ-loop
 sub-place c = search needs
@@ -50,7 +50,7 @@ put-number-spec =
     (tie.spec
     Inv-loop
     μ-loop
-    smaller-requires
+    lesser-requires
     loop-holds
     sub-place
     cast-put-byte

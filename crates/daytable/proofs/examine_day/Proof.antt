@@ -1,6 +1,6 @@
 -- The code is the chain of tests as it is defined.
 use borrow.Author.Needs.{needs}
-use Rattle.daytable.specs.Acceptance.{lengths, check}
+use Rattle.daytable.specs.Acceptance.{lengths-check, table-check}
 use Rattle.daytable.proofs.examine_day.Statement.{statement}
 use Rattle.daytable.proofs.examine_day.Tie as tie
 
@@ -44,7 +44,7 @@ keep-requires-7 : tie.Need-keep-requires-7
 keep-requires-7 c κs = search needs
 
 returns : tie.Need-returns
-unfolding lengths check
+unfolding lengths-check table-check
 returns c =
     let idle = c .before .before .before .before in
     let tested = idle .before .before .before .before in

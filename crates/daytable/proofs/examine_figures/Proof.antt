@@ -1,6 +1,6 @@
 -- The code is the chain of tests as it is defined.
 use borrow.Author.Needs.{needs}
-use Rattle.daytable.specs.Acceptance.{figures}
+use Rattle.daytable.specs.Acceptance.{bounds-check}
 use Rattle.daytable.proofs.examine_figures.Statement.{statement}
 use Rattle.daytable.proofs.examine_figures.Tie as tie
 
@@ -29,7 +29,7 @@ gigajoules-within-requires-5 : tie.Need-gigajoules-within-requires-5
 gigajoules-within-requires-5 c κs = search needs
 
 returns : tie.Need-returns
-unfolding figures
+unfolding bounds-check
 returns c =
     let mdqs = c .before .before .before in
     let singles = mdqs .before .before in

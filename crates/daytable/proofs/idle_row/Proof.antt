@@ -24,8 +24,8 @@ mul-is-idle c = search needs
 shared-slice-read-is-idle : tie.Need-shared-slice-read-is-idle Inv-loop μ-loop
 shared-slice-read-is-idle c = search needs
 
-figure-requires : tie.Need-figure-requires Inv-loop μ-loop
-figure-requires c κs = search needs
+gigajoules-at-requires : tie.Need-gigajoules-at-requires Inv-loop μ-loop
+gigajoules-at-requires c κs = search needs
 
 is-idle-requires : tie.Need-is-idle-requires Inv-loop μ-loop
 is-idle-requires c κs = search needs
@@ -35,7 +35,7 @@ returns c =
     let test = c .before in
     let turn = test .before .before .before in
     stops _ _ _ (turn .before .loop .inv) (turn .loop-test .taken)
-    (rw (← test .before .figure .ensures) (sym (test .is-idle .ensures) ∙ c .if1 .taken))
+    (rw (← test .before .gigajoules-at .ensures) (sym (test .is-idle .ensures) ∙ c .if1 .taken))
 
 add-row : tie.Need-add-row Inv-loop μ-loop
 add-row c = search needs
@@ -48,7 +48,7 @@ loop-again c =
     let test = c .before in
     let turn = test .before .before .before in
     searched-more _ _ _ (turn .before .loop .inv) (turn .loop-test .taken)
-    (rw (← test .before .figure .ensures) (sym (test .is-idle .ensures) ∙ c .if1 .left))
+    (rw (← test .before .gigajoules-at .ensures) (sym (test .is-idle .ensures) ∙ c .if1 .left))
 
 returns-2 : tie.Need-returns-2 Inv-loop μ-loop
 returns-2 c = ends _ _ _ (c .before .loop .inv) (c .loop-test .left)
@@ -62,7 +62,7 @@ idle-row-spec =
     loop-holds
     mul-is-idle
     shared-slice-read-is-idle
-    figure-requires
+    gigajoules-at-requires
     is-idle-requires
     returns
     add-row

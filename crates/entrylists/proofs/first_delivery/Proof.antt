@@ -3,8 +3,10 @@ use mathlib.Core.Path.{ap}
 use Prim.Native.Nat.{_+_, _-_, _*_}
 use lib.Dec.{eqb}
 use borrow.Author.Tests.{eq-eqb, ne-eqb}
-use Rattle.columns.specs.Column.{col}
+use Rattle.columns.specs.Column.{col, listed}
 use Rattle.columns.proofs.Firsts.{Searched, searched-none, searched-more, stops, ends}
+use Rattle.bigendian.specs.Row.{size}
+use Rattle.dayformat.specs.Format.{column-in}
 use borrow.Author.Needs.{needs}
 use Rattle.entrylists.proofs.first_delivery.Statement.{statement}
 use Rattle.entrylists.proofs.first_delivery.Tie as tie
@@ -31,6 +33,7 @@ mul-result : tie.Need-mul-result Inv-loop μ-loop
 mul-result c = search needs
 
 returns : tie.Need-returns Inv-loop μ-loop
+unfolding size listed column-in
 returns c =
     let turn = c .before .before in
     ap (λ row. row * 12) (stops _ _ _ (turn .before .loop .inv) (turn .loop-test .taken) (eq-eqb _ 1 (c .if1 .taken)))
@@ -50,6 +53,7 @@ mul-result-2 : tie.Need-mul-result-2 Inv-loop μ-loop
 mul-result-2 c = search needs
 
 returns-2 : tie.Need-returns-2 Inv-loop μ-loop
+unfolding size listed column-in
 returns-2 c = ap (λ row. row * 12) (ends _ _ _ (c .before .loop .inv) (c .loop-test .left))
 
 pub first-delivery-spec : {M : Type 1} → statement M

@@ -1,5 +1,5 @@
 -- The five columns' tests, one after another.
-use Rattle.numbershares.specs.Leaves.{columns-check}
+use Rattle.numbershares.specs.Private.{columns-check}
 use borrow.Author.Needs.{needs}
 use Rattle.numbershares.proofs.check_columns.Statement.{statement}
 use Rattle.numbershares.proofs.check_columns.Tie as tie

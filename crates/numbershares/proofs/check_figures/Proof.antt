@@ -1,5 +1,5 @@
 -- The code is the chain of tests as it is defined.
-use Rattle.numbershares.specs.Leaves.{figures-check}
+use Rattle.numbershares.specs.Private.{early-check}
 use borrow.Author.Needs.{needs}
 use Rattle.numbershares.proofs.check_figures.Statement.{statement}
 use Rattle.numbershares.proofs.check_figures.Tie as tie
@@ -29,7 +29,7 @@ then-requires-2 : tie.Need-then-requires-2
 then-requires-2 c κs = search needs
 
 returns : tie.Need-returns
-unfolding figures-check
+unfolding early-check
 returns c =
     let compressor = c .before .before in
     let free-flow = compressor .before .before .before in

@@ -3,8 +3,8 @@ use borrow.Author.Needs.{needs}
 use Rattle.chargelisting.proofs.charges.charge_figures.Statement.{statement}
 use Rattle.chargelisting.proofs.charges.charge_figures.Tie as tie
 
-meter-figures-requires : tie.Need-meter-figures-requires
-meter-figures-requires c κs = search needs
+figures-of-requires : tie.Need-figures-of-requires
+figures-of-requires c κs = search needs
 
 overruns-of-requires : tie.Need-overruns-of-requires
 overruns-of-requires c κs = search needs
@@ -18,9 +18,9 @@ cents-of-requires c κs = search needs
 returns : tie.Need-returns
 returns c =
     let over = c .before .before in
-    rw (c .cents-of .ensures, over .overruns-of .ensures, over .before .meter-figures .ensures)
+    rw (c .cents-of .ensures, over .overruns-of .ensures, over .before .figures-of .ensures)
 
 pub charge-figures-spec : {M : Type 1} → statement M
 charge-figures-spec =
     tie.close
-    (tie.spec meter-figures-requires overruns-of-requires cast-t7 cents-of-requires returns)
+    (tie.spec figures-of-requires overruns-of-requires cast-t7 cents-of-requires returns)

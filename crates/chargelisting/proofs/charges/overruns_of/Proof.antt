@@ -4,8 +4,8 @@ use borrow.Author.Needs.{needs}
 use Rattle.chargelisting.proofs.charges.overruns_of.Statement.{statement}
 use Rattle.chargelisting.proofs.charges.overruns_of.Tie as tie
 
-meter-figures-requires : tie.Need-meter-figures-requires
-meter-figures-requires c κs = search needs
+figures-of-requires : tie.Need-figures-of-requires
+figures-of-requires c κs = search needs
 
 meter-yesterday-requires : tie.Need-meter-yesterday-requires
 meter-yesterday-requires c κs = search needs
@@ -28,7 +28,7 @@ returns c =
     let hours = day .before in
     let yesterday = hours .before in
     refused-zeros _
-    (rw (yesterday .before .meter-figures .ensures, yesterday .meter-yesterday .ensures, hours .meter-hours .ensures) at
+    (rw (yesterday .before .figures-of .ensures, yesterday .meter-yesterday .ensures, hours .meter-hours .ensures) at
     (day .overruns-of-day .ensures)) (c .enum-told .given .1)
 
 returns-2 : tie.Need-returns-2
@@ -37,14 +37,14 @@ returns-2 c =
     let hours = day .before in
     let yesterday = hours .before in
     over-is _
-    (rw (yesterday .before .meter-figures .ensures, yesterday .meter-yesterday .ensures, hours .meter-hours .ensures) at
+    (rw (yesterday .before .figures-of .ensures, yesterday .meter-yesterday .ensures, hours .meter-hours .ensures) at
     (day .overruns-of-day .ensures)) (c .before .day .given .1)
 
 pub overruns-of-spec : {M : Type 1} → statement M
 overruns-of-spec =
     tie.close
     (tie.spec
-    meter-figures-requires
+    figures-of-requires
     meter-yesterday-requires
     meter-hours-requires
     overruns-of-day-requires

@@ -2,7 +2,7 @@
 use Prim.Native.Nat.{_-_, _*_, _≤_}
 use native.Mathlib.Omega.{arith}
 use Rattle.text.specs.Text.{Laid}
-use Rattle.listings.proofs.Lines.{texts-none, texts-more, texts-all, laid-long}
+use Rattle.lines.proofs.Texts.{texts-none, texts-more, texts-all, laid-long}
 use Rattle.chargelisting.specs.ChargesText.{meter-lines}
 use borrow.Author.Needs.{needs}
 use Rattle.chargelisting.proofs.chargestext.put_meters.Statement.{statement}

@@ -4,13 +4,12 @@ use native.Mathlib.Nat.{le-refl}
 use native.Mathlib.Omega.{arith}
 use Rattle.dayformat.specs.declared.form.Tag.the-variants.{Meter}
 use Rattle.lines.proofs.Answers.{too-long, fits}
-use Rattle.daywriter.proofs.Accepting.{accepting}
 use borrow.Author.Needs.{needs}
 use Rattle.chargelisting.proofs.list.list_day.Statement.{statement}
 use Rattle.chargelisting.proofs.list.list_day.Tie as tie
 
 few-of : (c : tie.Start) → c .args .day .counts .meters ≤ 64
-few-of c = accepting (c .args .day) (c .args .numbers .now) (c .pre) .few Meter
+few-of c = c .pre .few Meter
 
 put-charges-requires : tie.Need-put-charges-requires
 put-charges-requires c κs = (few-of (c .before .before .before), le-refl _)

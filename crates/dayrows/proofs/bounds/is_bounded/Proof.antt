@@ -8,7 +8,7 @@ use Rattle.columns.specs.Column.{col}
 use Rattle.columns.proofs.Firsts.{Searched, searched-none, searched-more}
 use Rattle.dayformat.specs.Format.{body, column-in, form}
 use Rattle.dayformat.proofs.Small.{small}
-use Rattle.dayrows.specs.Test.{within, bounded}
+use Rattle.dayrows.specs.Test.{in-bounds, bounded}
 use Rattle.dayrows.proofs.Searches.{not-clear, clear}
 use Rattle.dayrows.proofs.Within.{below-low, above-high, between}
 use Rattle.dayrows.proofs.bounds.is_bounded.Statement.{statement}
@@ -16,7 +16,7 @@ use Rattle.dayrows.proofs.bounds.is_bounded.Tie as tie
 
 abbrev Inv-loop : tie.InvT-loop
 Inv-loop numbers tag at columns place₀ place =
-    (columns ≡ form tag .columns) × Searched (λ i. not (within (column-in (body tag) i) (col numbers (at + i)))) columns place
+    (columns ≡ form tag .columns) × Searched (λ i. not (in-bounds (column-in (body tag) i) (col numbers (at + i)))) columns place
 
 abbrev μ-loop : tie.MeasureT-loop
 μ-loop numbers tag at columns place₀ place = columns - place

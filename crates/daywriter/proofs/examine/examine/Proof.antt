@@ -5,7 +5,7 @@ use lib.ListN.{length}
 use Rattle.units.specs.declared.refusal.Check.{Check}
 use Rattle.units.specs.Refusals.{_then_, keep}
 use Rattle.dayformat.specs.Layout.{numbers-in}
-use Rattle.daywriter.specs.Acceptance.{singles}
+use Rattle.daywriter.specs.Acceptance.{singles-check}
 use Rattle.daywriter.proofs.Examining.{singles-refuse, rows-decide}
 use borrow.Author.Needs.{needs}
 use Rattle.daywriter.proofs.examine.examine.Statement.{statement}
@@ -37,7 +37,7 @@ first : (c : tie.After-then)
     ≡ (Check.Accepted
     then keep (eqb (length (c .before .before .before .before .before .before .args .numbers .now))
     (numbers-in (c .before .before .before .before .before .before .args .day .counts))) 9
-    then singles (c .before .before .before .before .before .before .args .day))
+    then singles-check (c .before .before .before .before .before .before .args .day))
 first c =
     rw (
       c .then .ensures,

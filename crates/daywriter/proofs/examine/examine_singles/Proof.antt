@@ -1,6 +1,6 @@
 -- The code is the chain of tests as it is defined.
 use borrow.Author.Needs.{needs}
-use Rattle.daywriter.specs.Acceptance.{singles}
+use Rattle.daywriter.specs.Acceptance.{singles-check}
 use Rattle.daywriter.proofs.examine.examine_singles.Statement.{statement}
 use Rattle.daywriter.proofs.examine.examine_singles.Tie as tie
 
@@ -17,7 +17,7 @@ then-requires : tie.Need-then-requires
 then-requires c κs = search needs
 
 returns : tie.Need-returns
-unfolding singles
+unfolding singles-check
 returns c =
     let capacities = c .before .before in
     rw (

@@ -1,6 +1,6 @@
 -- The code is the chain of tests as it is defined.
 use borrow.Author.Needs.{needs}
-use Rattle.daywriter.specs.Acceptance.{tables}
+use Rattle.daywriter.specs.Acceptance.{tables-check}
 use Rattle.daywriter.proofs.examine.examine_tables.Statement.{statement}
 use Rattle.daywriter.proofs.examine.examine_tables.Tie as tie
 
@@ -53,7 +53,7 @@ clear-requires-4 : tie.Need-clear-requires-4
 clear-requires-4 c κs = search needs
 
 returns : tie.Need-returns
-unfolding tables
+unfolding tables-check
 returns c =
     let entry = c .before .before in
     let point = entry .before .before in

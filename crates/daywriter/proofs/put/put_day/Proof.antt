@@ -5,7 +5,7 @@ use borrow.Author.Needs.{needs}
 use Rattle.dayformat.specs.declared.form.Tag.{Tag}
 use Rattle.dayformat.specs.declared.form.Tag.the-variants.{Head, Shipper, Point, Entry, Meter}
 use Rattle.dayformat.specs.Layout.{run-size}
-use Rattle.daywriter.proofs.Sizes.{fields-small}
+use Rattle.dayformat.proofs.Sizes.{fields-small}
 use Rattle.daywriter.proofs.FieldLaying.{file-laid}
 use Rattle.daywriter.proofs.put.put_day.Statement.{statement}
 use Rattle.daywriter.proofs.put.put_day.Tie as tie

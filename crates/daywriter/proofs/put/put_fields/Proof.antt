@@ -7,7 +7,7 @@ use borrow.Author.Needs.{needs}
 use Rattle.columns.specs.Column.{col}
 use Rattle.dayformat.specs.Format.{field-size}
 use Rattle.dayformat.proofs.Small.{small}
-use Rattle.daywriter.proofs.Sizes.{fields-small}
+use Rattle.dayformat.proofs.Sizes.{fields-small}
 use Rattle.daywriter.proofs.FieldLaying.{Fielding, fielding-none, fielding-next, fielding-long, fielding-all}
 use Rattle.daywriter.proofs.put.put_fields.Statement.{statement}
 use Rattle.daywriter.proofs.put.put_fields.Tie as tie

@@ -10,8 +10,8 @@ Inv-loop lent room written₀ written = (written ≤ room) × (written ≤ 6881)
 abbrev μ-loop : tie.MeasureT-loop
 μ-loop lent room written₀ written = written
 
-smaller-requires : tie.Need-smaller-requires Inv-loop μ-loop
-smaller-requires c κs = search needs
+lesser-requires : tie.Need-lesser-requires Inv-loop μ-loop
+lesser-requires c κs = search needs
 
 loop-holds : tie.Need-loop-holds Inv-loop μ-loop
 loop-holds c = search needs
@@ -46,7 +46,7 @@ written-numbers-spec =
     (tie.spec
     Inv-loop
     μ-loop
-    smaller-requires
+    lesser-requires
     loop-holds
     sub-if1
     mul-if1

@@ -5,13 +5,13 @@ use borrow.Author.Needs.{needs}
 use lib.ListN.{replicate}
 use Rattle.columns.specs.Column.{col}
 use Rattle.columns.proofs.Lists.{Filling, filling-none, filling-next}
-use Rattle.metered.specs.Hours.{figures}
+use Rattle.metered.specs.Hours.{bare-hours}
 use Rattle.metered.proofs.Rows.{written, figure-at, length-figures}
 use Rattle.metered.proofs.hours.days_begun.Statement.{statement}
 use Rattle.metered.proofs.hours.days_begun.Tie as tie
 
 abbrev Inv-loop : tie.InvT-loop
-Inv-loop yesterday hours₀ hour₀ hours hour = (hour ≤ 11) × Filling hours₀ (col (figures yesterday)) hour hours
+Inv-loop yesterday hours₀ hour₀ hours hour = (hour ≤ 11) × Filling hours₀ (col (bare-hours yesterday)) hour hours
 
 abbrev μ-loop : tie.MeasureT-loop
 μ-loop yesterday hours₀ hour₀ hours hour = 11 - hour
@@ -45,7 +45,7 @@ returns c =
     let turns = c .before in
     let start = turns .before in
     let yesterday = start .args .t1 in
-    written (replicate 35 0) (figures yesterday) 11 (length-figures yesterday ∙ start .good .0 .1 .0 .1) (turns .loop .inv .1)
+    written (replicate 35 0) (bare-hours yesterday) 11 (length-figures yesterday ∙ start .good .0 .1 .0 .1) (turns .loop .inv .1)
     (turns .loop .inv .0) (c .loop-test .left)
 
 pub days-begun-spec : {M : Type 1} → statement M

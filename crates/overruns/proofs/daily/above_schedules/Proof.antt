@@ -5,29 +5,29 @@ use native.Mathlib.Omega.{arith}
 use borrow.Author.Needs.{needs}
 use lib.ListN.{length}
 use Rattle.units.specs.Bound.{most-hour}
-use Rattle.metered.specs.Hours.{figures}
+use Rattle.metered.specs.Hours.{bare-hours}
 use Rattle.overruns.proofs.Days.{day-gas, day-gas-most, scheduled, day-over}
 use Rattle.overruns.proofs.daily.above_schedules.Statement.{statement}
 use Rattle.overruns.proofs.daily.above_schedules.Tie as tie
 
 module _ (c : tie.After-gas-of) where
-  abbrev made : tie.After-figures
+  abbrev made : tie.After-bare-hours
   made = c .before .before
 
-  long : length (made .figures .result) ≡ 24
+  long : length (made .bare-hours .result) ≡ 24
   long = search needs
 
   metered-most : c .gas-of .result .0 ≤ 24 * most-hour
-  metered-most = day-gas-most _ (made .figures .ensures) (c .gas-of .ensures) long (made .before .pre .0)
+  metered-most = day-gas-most _ (made .bare-hours .ensures) (c .gas-of .ensures) long (made .before .pre .0)
 
-figures-requires : tie.Need-figures-requires
-figures-requires c κs = search needs
+bare-hours-requires : tie.Need-bare-hours-requires
+bare-hours-requires c κs = search needs
 
 slice-aggregate-gas-of : tie.Need-slice-aggregate-gas-of
 slice-aggregate-gas-of c = search needs
 
 gas-of-requires : tie.Need-gas-of-requires
-gas-of-requires c κs = let f = c .before in (search needs, rw (f .figures .ensures) (f .before .pre .0))
+gas-of-requires c κs = let f = c .before in (search needs, rw (f .bare-hours .ensures) (f .before .pre .0))
 
 add-metered : tie.Need-add-metered
 add-metered c = omega (arith, metered-most (c .before .before))
@@ -59,15 +59,15 @@ returns c =
     (a .side)
     (f .in-megajoules .ensures)
     (b .in-megajoules2 .ensures)
-    (figures (a .row))
-    (day-gas _ (m .figures .ensures) (g .gas-of .ensures) (long g))
+    (bare-hours (a .row))
+    (day-gas _ (m .bare-hours .ensures) (g .gas-of .ensures) (long g))
     (c .excess .ensures)
 
 pub above-schedules-spec : {M : Type 1} → statement M
 above-schedules-spec =
     tie.close
     (tie.spec
-    figures-requires
+    bare-hours-requires
     slice-aggregate-gas-of
     gas-of-requires
     add-metered

@@ -11,13 +11,13 @@ use Rattle.overruns.proofs.daily.daily_overruns.Tie as tie
 checked : (c : tie.After-then)
     → let args = c .before .before .before .args in c .then .result ≡ daily-check (args .hours) (args .receipt) (args .delivery)
 unfolding daily-check
-checked c = rw (c .then .ensures, c .before .examine-rows .ensures, c .before .before .examine-sides .ensures)
+checked c = rw (c .then .ensures, c .before .examine-hours .ensures, c .before .before .examine-sides .ensures)
 
 examine-sides-requires : tie.Need-examine-sides-requires
 examine-sides-requires c κs = search needs
 
-examine-rows-requires : tie.Need-examine-rows-requires
-examine-rows-requires c κs = search needs
+examine-hours-requires : tie.Need-examine-hours-requires
+examine-hours-requires c κs = search needs
 
 then-requires : tie.Need-then-requires
 then-requires c κs = search needs
@@ -44,7 +44,7 @@ daily-overruns-spec =
     tie.close
     (tie.spec
     examine-sides-requires
-    examine-rows-requires
+    examine-hours-requires
     then-requires
     enum-known-found
     enum-told

@@ -33,7 +33,7 @@ checked c =
     let start = made .before .before in
     rw (
       c .then2 .ensures,
-      c .before .examine-rows .ensures,
+      c .before .examine-hours .ensures,
       within .megajoules-within .ensures,
       within .before .before .then .ensures,
       sides .examine-sides .ensures,
@@ -79,8 +79,8 @@ slice-aggregate-megajoules-within c =
 megajoules-within-requires : tie.Need-megajoules-within-requires
 megajoules-within-requires c κs = search needs
 
-examine-rows-requires : tie.Need-examine-rows-requires
-examine-rows-requires c κs = search needs
+examine-hours-requires : tie.Need-examine-hours-requires
+examine-hours-requires c κs = search needs
 
 then-requires-2 : tie.Need-then-requires-2
 then-requires-2 c κs = search needs
@@ -121,7 +121,7 @@ overruns-of-day-spec =
     array-share-prefix-both
     slice-aggregate-megajoules-within
     megajoules-within-requires
-    examine-rows-requires
+    examine-hours-requires
     then-requires-2
     enum-known-found
     enum-told

@@ -11,13 +11,13 @@ use Rattle.overruns.proofs.hourly.hourly_overrun.Tie as tie
 checked : (c : tie.After-then)
     → let args = c .before .before .before .before .before .args in c .then .result ≡ hourly-check (args .m) (args .hours)
 unfolding hourly-check
-checked c = rw (c .then .ensures, c .before .examine-rows .ensures, c .before .before .keep .ensures)
+checked c = rw (c .then .ensures, c .before .examine-hours .ensures, c .before .before .keep .ensures)
 
 keep-requires : tie.Need-keep-requires
 keep-requires c κs = search needs
 
-examine-rows-requires : tie.Need-examine-rows-requires
-examine-rows-requires c κs = search needs
+examine-hours-requires : tie.Need-examine-hours-requires
+examine-hours-requires c κs = search needs
 
 then-requires : tie.Need-then-requires
 then-requires c κs = search needs
@@ -44,7 +44,7 @@ hourly-overrun-spec =
     tie.close
     (tie.spec
     keep-requires
-    examine-rows-requires
+    examine-hours-requires
     then-requires
     enum-known-found
     enum-told

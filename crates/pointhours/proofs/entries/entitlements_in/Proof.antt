@@ -4,7 +4,8 @@ use Prim.Native.Nat.{_-_, _≤_}
 use native.Mathlib.Omega.{arith}
 use lib.ListN.{replicate}
 use Rattle.columns.proofs.Lists.{Filling, filling-none, filling-next, filling-all}
-use Rattle.pointhours.specs.Parts.{most-entries, entitlement-in, with-zeros}
+use Rattle.pointhours.specs.Parts.{most-entries, entitlement-in}
+use Rattle.pointhours.specs.Private.{with-zeros}
 use borrow.Author.Needs.{needs}
 use Rattle.pointhours.proofs.entries.entitlements_in.Statement.{statement}
 use Rattle.pointhours.proofs.entries.entitlements_in.Tie as tie

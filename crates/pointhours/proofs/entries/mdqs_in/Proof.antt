@@ -6,7 +6,8 @@ use lib.ListN.{replicate}
 use Rattle.columns.specs.Column.{col}
 use Rattle.columns.proofs.Lists.{Filling, filling-none, filling-next, filling-all}
 use Rattle.pointhours.specs.HourText.{firm-mdq}
-use Rattle.pointhours.specs.Parts.{most-entries, most-number, mdq-in, with-zeros}
+use Rattle.pointhours.specs.Parts.{most-entries, most-number, mdq-in}
+use Rattle.pointhours.specs.Private.{with-zeros}
 use borrow.Author.Needs.{needs}
 use Rattle.pointhours.proofs.entries.mdqs_in.Statement.{statement}
 use Rattle.pointhours.proofs.entries.mdqs_in.Tie as tie

@@ -6,7 +6,7 @@ use native.Mathlib.Omega.{arith}
 use Rattle.columns.specs.Column.{col}
 use Rattle.units.specs.declared.refusal.Check.the-variants.{Accepted}
 use Rattle.text.specs.Text.{Laid}
-use Rattle.listings.proofs.Lines.{texts-none, texts-more, laid-long}
+use Rattle.lines.proofs.Texts.{texts-none, texts-more, laid-long}
 use Rattle.pointhours.specs.HourText.{share-lines}
 use Rattle.pointhours.specs.Parts.{entries-in, shipper-in}
 use borrow.Author.Needs.{needs}

@@ -2,7 +2,6 @@
 use mathlib.Core.List.{List}
 use Prim.Native.Nat.{ℕ}
 use lib.ListN.{length-replicate}
-use Rattle.bigendian.specs.Number.{AreBytes}
 use Rattle.listings.proofs.Listing.{lists-refusal, part-inside, part-long, lists-day}
 use Rattle.columns.specs.Column.{col}
 use Rattle.pointlisting.specs.PointsText.{points-text}
@@ -29,15 +28,12 @@ numbers-of-requires c κs = search needs
 abbrev file-of : tie.After-read-day → List ℕ
 file-of c = c .before .before .before .before .args .file .now
 
-bytes-of : (c : tie.After-read-day) → AreBytes (file-of c)
-bytes-of c = λ i. c .before .before .before .shared-slice-known .given i .fits
-
 array-share-prefix-numbers : tie.Need-array-share-prefix-numbers
 array-share-prefix-numbers c =
     let read = c .before .before .before .before .before in
     let given = c .before .before .reading2 .given in
     rw (c .numbers-of .ensures .0)
-    (part-inside (file-of read) _ _ (given .0 .0) (bytes-of read) (rw (given .1) at (read .read-day .ensures)) (read .read-day .kept .1 .0))
+    (part-inside (file-of read) _ _ (given .0 .0) (rw (given .1) at (read .read-day .ensures)) (read .read-day .kept .1 .0))
 
 slice-aggregate-list-day : tie.Need-slice-aggregate-list-day
 slice-aggregate-list-day c =
@@ -45,7 +41,7 @@ slice-aggregate-list-day c =
     let read = count .before .before .before .before .before in
     let given = count .before .before .reading2 .given in
     rw (count .numbers-of .ensures .0)
-    (part-long (file-of read) _ _ (given .0 .0) (bytes-of read) (rw (given .1) at (read .read-day .ensures)) (read .read-day .kept .1 .0))
+    (part-long (file-of read) _ _ (given .0 .0) (rw (given .1) at (read .read-day .ensures)) (read .read-day .kept .1 .0))
 
 list-day-requires : tie.Need-list-day-requires
 list-day-requires c κs =
@@ -53,7 +49,7 @@ list-day-requires c κs =
     let read = count .before .before .before .before .before in
     let given = count .before .before .reading2 .given in
     rw (count .numbers-of .ensures .0)
-    (reads-part (file-of read) _ _ (given .0 .0) (bytes-of read) (rw (given .1) at (read .read-day .ensures)))
+    (reads-part (file-of read) _ _ (given .0 .0) (rw (given .1) at (read .read-day .ensures)))
 
 returns : tie.Need-returns
 returns c =
@@ -70,7 +66,7 @@ returns-2 c =
     let count = listed .before .before .before in
     let read = count .before .before .before .before .before in
     let given = count .before .before .reading2 .given in
-    lists-day (file-of read) _ _ (given .0 .0) (bytes-of read) (rw (given .1) at (read .read-day .ensures))
+    lists-day (file-of read) _ _ (given .0 .0) (rw (given .1) at (read .read-day .ensures))
     (λ day numbers. points-text day (col numbers))
     (rw (count .numbers-of .ensures .0) at (listed .list-day .ensures))
 

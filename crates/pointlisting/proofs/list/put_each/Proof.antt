@@ -3,12 +3,10 @@ use mathlib.Core.Path.{_≡_, subst}
 use Prim.Native.Nat.{_-_, _*_, _^_, _≤_}
 use native.Mathlib.Nat.{le-antisymm}
 use native.Mathlib.Omega.{arith}
-use Rattle.columns.specs.Column.{col}
+use Rattle.columns.specs.Column.{col, joined}
 use Rattle.text.specs.Text.{Laid}
 use Rattle.dayformat.specs.declared.form.Tag.the-variants.{Point}
-use Rattle.dayformat.specs.Table.{joined}
-use Rattle.daywriter.proofs.Accepting.{accepting}
-use Rattle.listings.proofs.Lines.{texts-none, texts-more, laid-long}
+use Rattle.lines.proofs.Texts.{texts-none, texts-more, laid-long}
 use Rattle.pointlisting.specs.PointsText.{point-lines}
 use borrow.Author.Needs.{needs}
 use Rattle.pointlisting.proofs.list.put_each.Statement.{statement}
@@ -27,7 +25,7 @@ start-of c = c .before .before .before .before .before
 
 -- a day has at most 32 points
 few : (start : tie.Start Inv-loop μ-loop) → start .args .day .counts .points ≤ 32
-few start = accepting (start .args .day) (start .args .numbers .now) (start .pre .0 .sound) .few Point
+few start = start .pre .0 .sound .few Point
 
 loop-holds : tie.Need-loop-holds Inv-loop μ-loop
 loop-holds c = (omega arith, omega arith, texts-none _)

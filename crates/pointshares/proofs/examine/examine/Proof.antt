@@ -1,6 +1,6 @@
 -- The code is the chain of tests as it is defined.
 use borrow.Author.Needs.{needs}
-use Rattle.pointshares.specs.Answer.{check}
+use Rattle.pointshares.specs.Answer.{hour-check}
 use Rattle.pointshares.proofs.examine.examine.Statement.{statement}
 use Rattle.pointshares.proofs.examine.examine.Tie as tie
 
@@ -29,7 +29,7 @@ keep-requires-5 : tie.Need-keep-requires-5
 keep-requires-5 c κs = search needs
 
 returns : tie.Need-returns
-unfolding check
+unfolding hour-check
 returns c =
     let stranded = c .before .before in
     let reserved = stranded .before .before in

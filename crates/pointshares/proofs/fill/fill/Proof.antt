@@ -6,15 +6,15 @@ use lib.ListN.{length}
 use Rattle.columns.proofs.Lists.{Filling, filling-none, filling-next, filling-all}
 use Rattle.columns.proofs.Sums.{Adding, adding-none, adding-next, adding-all, adding-bound}
 use Rattle.units.specs.Bound.{most-hour}
-use Rattle.pointshares.specs.Share.{shares}
+use Rattle.pointshares.specs.Share.{hour-shares}
 use Rattle.pointshares.proofs.Cases.{share-most}
 use Rattle.pointshares.proofs.fill.fill.Statement.{statement}
 use Rattle.pointshares.proofs.fill.fill.Tie as tie
 
 abbrev Inv-loop : tie.InvT-loop
 Inv-loop capacity totals entitlements mdqs lent given₀ row₀ list given row =
-    Adding (length entitlements) (shares entitlements mdqs capacity) row given
-    × Filling lent (shares entitlements mdqs capacity) row list
+    Adding (length entitlements) (hour-shares entitlements mdqs capacity) row given
+    × Filling lent (hour-shares entitlements mdqs capacity) row list
 
 abbrev μ-loop : tie.MeasureT-loop
 μ-loop capacity totals entitlements mdqs lent given₀ row₀ list given row = length entitlements - row

@@ -1,6 +1,6 @@
 -- The code is the chain of tests as it is defined.
 use borrow.Author.Needs.{needs}
-use Rattle.rounds.specs.Answer.{check}
+use Rattle.rounds.specs.Answer.{round-check}
 use Rattle.rounds.proofs.examine.examine.Statement.{statement}
 use Rattle.rounds.proofs.examine.examine.Tie as tie
 
@@ -23,7 +23,7 @@ keep-requires-4 : tie.Need-keep-requires-4
 keep-requires-4 c κs = search needs
 
 returns : tie.Need-returns
-unfolding check
+unfolding round-check
 returns c =
     let weights = c .before .before in
     let count = weights .before in

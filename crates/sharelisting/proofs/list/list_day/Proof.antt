@@ -1,13 +1,13 @@
 -- A sound day is shared, and the shared lists make its text.
 use Rattle.dayformat.specs.declared.form.Tag.the-variants.{Shipper}
-use Rattle.daywriter.proofs.Accepting.{Sound, accepting}
+use Rattle.dayrows.specs.Private.{Sound}
 use Rattle.sharelisting.proofs.TextIs.{never-refused, text-is}
 use borrow.Author.Needs.{needs}
 use Rattle.sharelisting.proofs.list.list_day.Statement.{statement}
 use Rattle.sharelisting.proofs.list.list_day.Tie as tie
 
 sound-of : (c : tie.Start) → Sound (c .args .day) (c .args .numbers .now)
-sound-of c = accepting (c .args .day) (c .args .numbers .now) (c .pre)
+sound-of c = c .pre
 
 slice-aggregate-share-numbers : tie.Need-slice-aggregate-share-numbers
 slice-aggregate-share-numbers c = search needs

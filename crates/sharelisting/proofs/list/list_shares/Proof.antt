@@ -1,7 +1,6 @@
 -- A refused file is refused by its own fault; a day that is read is sound, and listed.
 use Prim.Native.Nat.{ℕ}
 use lib.ListN.{length-replicate}
-use Rattle.bigendian.specs.Number.{AreBytes}
 use Rattle.columns.specs.Column.{col}
 use Rattle.sharelisting.specs.SharesText.{shares-text}
 use Rattle.listings.proofs.Listing.{lists-refusal, part-sound, part-inside, part-long, lists-day}
@@ -24,16 +23,13 @@ enum-known-reading-2 c = search needs
 numbers-of-requires : tie.Need-numbers-of-requires
 numbers-of-requires c κs = search needs
 
-bytes-of : (c : tie.After-read-day) → AreBytes (c .before .before .before .before .args .file .now)
-bytes-of c = λ i. c .before .before .before .shared-slice-known .given i .fits
-
 array-share-prefix-numbers : tie.Need-array-share-prefix-numbers
 array-share-prefix-numbers c =
     let count = c in
     let read = count .before .before .before .before .before in
     let given = count .before .before .reading2 .given in
     rw (count .numbers-of .ensures .0)
-    (part-inside (read .before .before .before .before .args .file .now) _ _ (given .0 .0) (bytes-of read)
+    (part-inside (read .before .before .before .before .args .file .now) _ _ (given .0 .0)
     (rw (given .1) at (read .read-day .ensures)) (read .read-day .kept .1 .0))
 
 slice-aggregate-list-day : tie.Need-slice-aggregate-list-day
@@ -42,7 +38,7 @@ slice-aggregate-list-day c =
     let read = count .before .before .before .before .before in
     let given = count .before .before .reading2 .given in
     rw (count .numbers-of .ensures .0)
-    (part-long (read .before .before .before .before .args .file .now) _ _ (given .0 .0) (bytes-of read)
+    (part-long (read .before .before .before .before .args .file .now) _ _ (given .0 .0)
     (rw (given .1) at (read .read-day .ensures)) (read .read-day .kept .1 .0))
 
 list-day-requires : tie.Need-list-day-requires
@@ -51,7 +47,7 @@ list-day-requires c κs =
     let read = count .before .before .before .before .before in
     let given = count .before .before .reading2 .given in
     rw (count .numbers-of .ensures .0)
-    (part-sound (read .before .before .before .before .args .file .now) _ _ (given .0 .0) (bytes-of read)
+    (part-sound (read .before .before .before .before .args .file .now) _ _ (given .0 .0)
     (rw (given .1) at (read .read-day .ensures)))
 
 returns : tie.Need-returns
@@ -69,7 +65,7 @@ returns-2 c =
     let count = listed .before .before .before in
     let read = count .before .before .before .before .before in
     let given = count .before .before .reading2 .given in
-    lists-day (read .before .before .before .before .args .file .now) _ _ (given .0 .0) (bytes-of read)
+    lists-day (read .before .before .before .before .args .file .now) _ _ (given .0 .0)
     (rw (given .1) at (read .read-day .ensures)) (λ day numbers. shares-text day (col numbers))
     (rw (count .numbers-of .ensures .0) at (listed .list-day .ensures))
 

@@ -5,7 +5,7 @@ use Rattle.columns.specs.Column.{col}
 use Rattle.text.specs.Text.{Laid}
 use Rattle.dayvalues.specs.Shippers.{shipper-of}
 use Rattle.sharelisting.specs.SharesText.{shipper-lines}
-use Rattle.listings.proofs.Lines.{texts-none, texts-more, texts-all, laid-long}
+use Rattle.lines.proofs.Texts.{texts-none, texts-more, texts-all, laid-long}
 use borrow.Author.Needs.{needs}
 use Rattle.sharelisting.proofs.sharestext.put_shippers.Statement.{statement}
 use Rattle.sharelisting.proofs.sharestext.put_shippers.Tie as tie
@@ -24,29 +24,29 @@ loop-holds c = (omega arith, omega arith, texts-none _)
 number-at-requires : tie.Need-number-at-requires Inv-loop μ-loop
 number-at-requires c κs = search needs
 
-cast-figure : tie.Need-cast-figure Inv-loop μ-loop
-cast-figure c = search needs
+cast-gigajoules-at : tie.Need-cast-gigajoules-at Inv-loop μ-loop
+cast-gigajoules-at c = search needs
 
-figure-requires : tie.Need-figure-requires Inv-loop μ-loop
-figure-requires c κs = search needs
+gigajoules-at-requires : tie.Need-gigajoules-at-requires Inv-loop μ-loop
+gigajoules-at-requires c κs = search needs
 
 cast-t18 : tie.Need-cast-t18 Inv-loop μ-loop
 cast-t18 c = search needs
 
-cast-figure-2 : tie.Need-cast-figure-2 Inv-loop μ-loop
-cast-figure-2 c = search needs
+cast-gigajoules-at-2 : tie.Need-cast-gigajoules-at-2 Inv-loop μ-loop
+cast-gigajoules-at-2 c = search needs
 
-figure-requires-2 : tie.Need-figure-requires-2 Inv-loop μ-loop
-figure-requires-2 c κs = search needs
+gigajoules-at-requires-2 : tie.Need-gigajoules-at-requires-2 Inv-loop μ-loop
+gigajoules-at-requires-2 c κs = search needs
 
 cast-t21 : tie.Need-cast-t21 Inv-loop μ-loop
 cast-t21 c = search needs
 
-cast-figure-3 : tie.Need-cast-figure-3 Inv-loop μ-loop
-cast-figure-3 c = search needs
+cast-gigajoules-at-3 : tie.Need-cast-gigajoules-at-3 Inv-loop μ-loop
+cast-gigajoules-at-3 c = search needs
 
-figure-requires-3 : tie.Need-figure-requires-3 Inv-loop μ-loop
-figure-requires-3 c κs = search needs
+gigajoules-at-requires-3 : tie.Need-gigajoules-at-requires-3 Inv-loop μ-loop
+gigajoules-at-requires-3 c κs = search needs
 
 cast-t24 : tie.Need-cast-t24 Inv-loop μ-loop
 cast-t24 c = search needs
@@ -80,9 +80,9 @@ loop-again c =
       texts-more _ (now .inv .2)
           (rw (
             ← lower .before .before .before .number-at .ensures,
-            ← lower .before .before .figure .ensures,
-            ← lower .before .figure2 .ensures,
-            ← lower .figure3 .ensures,
+            ← lower .before .before .gigajoules-at .ensures,
+            ← lower .before .gigajoules-at2 .ensures,
+            ← lower .gigajoules-at3 .ensures,
           )
           (line .put-line .ensures .0)),
     )
@@ -104,14 +104,14 @@ put-shippers-spec =
     μ-loop
     loop-holds
     number-at-requires
-    cast-figure
-    figure-requires
+    cast-gigajoules-at
+    gigajoules-at-requires
     cast-t18
-    cast-figure-2
-    figure-requires-2
+    cast-gigajoules-at-2
+    gigajoules-at-requires-2
     cast-t21
-    cast-figure-3
-    figure-requires-3
+    cast-gigajoules-at-3
+    gigajoules-at-requires-3
     cast-t24
     slice-aggregate-put-line
     add-put-line

@@ -1,6 +1,6 @@
 -- The code is the chain of tests as it is defined.
 use borrow.Author.Needs.{needs}
-use Rattle.usegas.specs.General.{check}
+use Rattle.usegas.specs.General.{general-check}
 use Rattle.usegas.proofs.examine.examine.Statement.{statement}
 use Rattle.usegas.proofs.examine.examine.Tie as tie
 
@@ -35,7 +35,7 @@ keep-requires-7 : tie.Need-keep-requires-7
 keep-requires-7 c κs = search needs
 
 returns : tie.Need-returns
-unfolding check
+unfolding general-check
 returns c =
     let scheduled = c .before .before in
     let small = scheduled .before .before in

@@ -6,14 +6,14 @@ use lib.ListN.{length}
 use Rattle.columns.proofs.Lists.{Filling, filling-none, filling-next, filling-all}
 use Rattle.columns.proofs.Sums.{Adding, adding-none, adding-next, adding-all, adding-bound}
 use Rattle.units.specs.Bound.{most-system-use}
-use Rattle.usegas.specs.Share.{shares}
+use Rattle.usegas.specs.Share.{gas-shares}
 use Rattle.usegas.proofs.Shares.{share-most}
 use Rattle.usegas.proofs.fill.fill.Statement.{statement}
 use Rattle.usegas.proofs.fill.fill.Tie as tie
 
 abbrev Inv-loop : tie.InvT-loop
 Inv-loop net total foundation schedules lent given₀ row₀ list given row =
-    Adding (length schedules) (shares foundation schedules net) row given × Filling lent (shares foundation schedules net) row list
+    Adding (length schedules) (gas-shares foundation schedules net) row given × Filling lent (gas-shares foundation schedules net) row list
 
 abbrev μ-loop : tie.MeasureT-loop
 μ-loop net total foundation schedules lent given₀ row₀ list given row = length schedules - row

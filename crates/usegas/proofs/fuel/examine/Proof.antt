@@ -1,6 +1,6 @@
 -- The code is the chain of tests as it is defined.
 use borrow.Author.Needs.{needs}
-use Rattle.usegas.specs.Fuel.{check}
+use Rattle.usegas.specs.Fuel.{fuel-check}
 use Rattle.usegas.proofs.fuel.examine.Statement.{statement}
 use Rattle.usegas.proofs.fuel.examine.Tie as tie
 
@@ -20,7 +20,7 @@ keep-requires-3 : tie.Need-keep-requires-3
 keep-requires-3 c κs = search needs
 
 returns : tie.Need-returns
-unfolding check
+unfolding fuel-check
 returns c =
     let end = c .before .before .before in
     let start = end .before .before in

@@ -16,8 +16,8 @@ slice-aggregate-write-all c = search needs
 write-all-requires : tie.Need-write-all-requires Inv-loop μ-loop
 write-all-requires c κs = search needs
 
-smaller-requires : tie.Need-smaller-requires Inv-loop μ-loop
-smaller-requires c κs = search needs
+lesser-requires : tie.Need-lesser-requires Inv-loop μ-loop
+lesser-requires c κs = search needs
 
 loop-holds : tie.Need-loop-holds Inv-loop μ-loop
 loop-holds c = search needs
@@ -54,7 +54,7 @@ put-gigajoules-spec =
     μ-loop
     slice-aggregate-write-all
     write-all-requires
-    smaller-requires
+    lesser-requires
     loop-holds
     mul-figure-of
     element-copy-out-figure-of

@@ -1,0 +1,17 @@
+-- At any rate within its bound, the charge of every shipper's greatest overrun is accepted.
+use mathlib.Core.Path.{_≡_, refl}
+use Prim.Native.Nat.{_≤_}
+use borrow.Author.Tests.{le-leb}
+use Rattle.units.specs.declared.Rate.{Rate}
+use Rattle.units.specs.declared.refusal.Check.{Check}
+use Rattle.units.specs.Bound.{most-rate}
+use Rattle.units.proofs.Checks.{accepts-both, accepts-kept}
+use Rattle.overruns.specs.Day.{ShipperDay, day-answer, day-verdict}
+use Rattle.overruns.proofs.Promises.{day-kept}
+use Rattle.tariff.specs.Charges.{overrun-check}
+
+pub charges-accept : (rate : Rate) (D : ShipperDay) → rate .0 ≤ most-rate
+    → overrun-check rate (day-verdict (day-answer D) .figures .greatest) ≡ Check.Accepted
+unfolding overrun-check
+charges-accept rate D l =
+    accepts-both (accepts-both refl (accepts-kept 3 (le-leb _ _ l))) (accepts-kept 3 (le-leb _ _ (day-kept D refl .chargeable)))
