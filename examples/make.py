@@ -18,6 +18,7 @@ sys.path.insert(0, str(HERE.parent / "reference"))
 from cormcushion import LISTINGS, listing
 from dayfile import day_of, write_day
 from dayformat import ENTRY, HEAD, METER, POINT, SHIPPER
+from refusals import Refusal
 
 DAYS = ("small", "cool")
 
@@ -102,7 +103,10 @@ def made():
     files = {}
     for name in DAYS:
         text = HERE.joinpath(f"{name}.txt").read_text(encoding="utf-8")
-        file = write_day(day_of(tables_from(text)))
+        try:
+            file = write_day(day_of(tables_from(text)))
+        except Refusal as refusal:
+            sys.exit(f"{name}.txt: REFUSED {refusal.number} {refusal.place}, a table's row from 0")
         files[f"examples/{name}.day"] = file
         for program in LISTINGS:
             files[f"examples/{name}.{program}"] = listing(program, [], file).encode()

@@ -1,14 +1,24 @@
 /* Cormcushion for callers in C, and in whatever can call C: link libcormcushion.a, which `rt staticlib cormcushion` writes for x86-64.
+ * It calls memcpy and memset, and nothing else.
  *
  * Every function takes every input that its parameters can hold, returns, and writes to nothing but what is lent to it. What nothing
  * checks is the call itself: a pointer must lead to as many elements as the count behind it says, or as its parameter's brackets say,
- * and what is lent to be written must not overlap anything else that is passed. An empty list may have any pointer. Nor does a proof
- * speak of the stack: those that take a file use up to about 120 kB of it.
+ * and be aligned as its type asks; what is lent to be written must not overlap anything else that is passed. An empty list may have
+ * any pointer.
+ *
+ * Threads: the library keeps nothing between calls, so that several threads may call it at once, so long as no call uses what another
+ * is lent to write.
+ *
+ * Stack: have 128 kB free for a function that lists or checks a file, 64 kB for cormcushion_read_day, 8 kB for the others; no proof
+ * speaks of it. They take 114, 56 and 2 kB at most: so much do the frames in the archive come to along every chain of calls, none of
+ * which comes back to itself, and so deep did calls write on stacks filled with a pattern, given full files of 25,551 bytes, sound and
+ * damaged. Where the stack is shorter the process ends at its guard page.
  *
  * The answer is one number in fixed decimal digits: the last fifteen are a figure, the two before them 01's refusal number, those
  * before these a kind, which is 0 today. Where the number is 0 the call is accepted and the figure is its answer; else the call is
- * refused, the figure is the refusal's place, and everything lent is as it was. Figures and places have room in their digits for
- * every input: in a file of any length the place is at most 25,551. */
+ * refused, the figure is the refusal's place, and everything lent is as it was. docs/RULES.md says what each number means. A place is
+ * the first byte of a field in a file, a row or an hour from 0 in a list, else 0; it does not say which list of a call is meant.
+ * Figures and places have room in their digits for every input: in a file of any length the place is at most 25,551. */
 #ifndef CORMCUSHION_H
 #define CORMCUSHION_H
 
@@ -34,7 +44,8 @@ uint64_t cormcushion_list_shares(const uint8_t *file, size_t file_length, uint8_
  * Reads:    file; the rate in hundred-thousandths of a dollar, Schedule 2's being 359000.
  * Writes:   the text to the front of `text`. 8,192 bytes hold every listing.
  * Figure:   the text's length in bytes.
- * Refuses:  3 at 0 for a rate above 100,000,000, before the file; else as cormcushion_list_shares. */
+ * Refuses:  3 at 0 for a rate above 100,000,000, before the file, whose head can be refused by 3 at 0 too; else as
+ *           cormcushion_list_shares. */
 uint64_t cormcushion_list_charges(const uint8_t *file, size_t file_length, uint32_t rate, uint8_t *text, size_t text_room);
 
 /* The listing of the hours at a day file's points, as the program `points` prints it; a point's own refusal is a line of the text.

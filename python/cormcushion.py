@@ -2,7 +2,12 @@
 
 `bash callers/build` makes the shared object, target/callers/libcormcushion.so, which is for x86-64. Another place for it can be
 named by the environment's CORMCUSHION_LIBRARY. Every function either answers or raises Refusal with 01's number and place. A figure
-that is no whole number from 0 up to the greatest of its width is no input at all: OverflowError or TypeError.
+that is no whole number from 0 up to the greatest of its width is no input at all: OverflowError or TypeError. Nor is a file that is
+no bytes object: ctypes.ArgumentError.
+
+Functions may be called from several threads and run side by side: ctypes gives up the interpreter's lock for a call, and each call
+copies the lists that it is given and has room of its own for what is written. A thread needs 128 kB of stack free for a function that
+takes a file and 8 kB for the others, so threading.stack_size should not be set as low as that.
 """
 
 import ctypes

@@ -5,7 +5,7 @@ use Prim.Native.Nat.{ℕ, zero, suc, _+_, _-_, _/_, _%_, _≤_, _<_}
 use native.Mathlib.Omega.{arith}
 use lib.ListN.{set}
 use lib.Seq.{sets}
-use Rattle.text.proofs.Laying.{Laying, laying-last}
+use Rattle.columns.proofs.Laying.{Laying, laying-last}
 use Rattle.bigendian.specs.Number.{bytes}
 use Rattle.bigendian.proofs.Numbers.{length-bytes, bytes-last}
 

@@ -1,6 +1,6 @@
 // Big-endian numbers of up to 32 bits in a file. Every input is taken: a width above four counts as four.
 use columns::lesser;
-use text::put_byte;
+use columns::put_byte;
 ghost use mathlib.Core.Path.{_≡_};
 ghost use mathlib.Core.List.{[], _∷_};
 ghost use Prim.Native.Nat.{_/_, _%_, min};

@@ -38,7 +38,7 @@ use Rattle.chargelisting.proofs.Sizes as charges-sizes
 use Rattle.pointlisting.specs.PointsText.{points-listing}
 use Rattle.pointlisting.proofs.Decided.{points-decided}
 use Rattle.pointlisting.proofs.Sizes as points-sizes
-use Rattle.cormcushion.specs.Packed.{packed-check, Reads}
+use Rattle.cormcushion.specs.Packed.{packed-check, Unpacks}
 use Rattle.cormcushion.specs.Answers.{of-listing, of-reading, of-round, of-shares}
 use Rattle.cormcushion.specs.Lent.{ListingPacked, ReadingPacked, RoundPacked, SharesPacked}
 use Rattle.cormcushion.specs.Meter.{shipper-day, charge-check, charge-cents, ChargePacked}
@@ -47,7 +47,7 @@ use Rattle.cormcushion.proofs.Unpacking.{most-figure, found-reads, answ
 
 -- ---- capacity: the level of a round, LEFT of a day
 pub round-reads : {c : ℕ} {ws qs lent after : List ℕ} {packed : ℕ} (R : RoundPacked c ws qs lent packed after)
-    → Reads packed (round-verdict (R .round)) (λ given. given .level)
+    → Unpacks packed (round-verdict (R .round)) (λ given. given .level)
 round-reads {c} {ws} {qs} {lent} R =
     answer-reads (round-decided (R .answers)) (λ given. given .level) (round-placed c ws qs (length lent)) (omega arith)
     (λ accepted. omega (arith, level-is (length ws) (col ws) (col qs) c .capped))
@@ -55,7 +55,7 @@ round-reads {c} {ws} {qs} {lent} R =
 
 pub shares-reads : {T : Table} {firm auction lower-tier levels firm-after auction-after lower-tier-after levels-after : List ℕ}
     {packed : ℕ} (D : SharesPacked T firm auction lower-tier levels packed firm-after auction-after lower-tier-after levels-after)
-    → Reads packed (shares-verdict (D .day)) (λ given. given .left .0)
+    → Unpacks packed (shares-verdict (D .day)) (λ given. given .left .0)
 shares-reads {T} D =
     answer-reads (day-decided (D .answers)) (λ given. given .left .0) (table-placed T _ _ _) (omega arith)
     (λ accepted. let B = accepting T _ _ _ accepted .bounded in omega (arith, B .free-flow, B .compressor))
@@ -63,13 +63,13 @@ shares-reads {T} D =
 
 -- ---- a day's file: how many numbers it has
 pub check-reads : (file : List ℕ) {packed : ℕ} → packed ≡ packed-check (file-check (walked file)) (numbers-in (walked file .counts))
-    → Reads packed (check-verdict (file-check (walked file))) (λ none. numbers-in (walked file .counts))
+    → Unpacks packed (check-verdict (file-check (walked file))) (λ none. numbers-in (walked file .counts))
 check-reads file =
     found-reads (checked (file-numbered file) refl) (λ none. numbers-in (walked file .counts)) (file-placed file) (omega arith)
     (λ accepted. omega (arith, numbers-most file))
 
 pub reading-reads : {file day lent day-after after : List ℕ} {packed : ℕ} (R : ReadingPacked file day lent packed day-after after)
-    → Reads packed (reading-verdict (R .reading)) (λ day. numbers-in (day .counts))
+    → Unpacks packed (reading-verdict (R .reading)) (λ day. numbers-in (day .counts))
 reading-reads {file} {lent = lent} R =
     answer-reads (reading-decided (R .answers)) (λ day. numbers-in (day .counts)) (reading-placed file (length lent)) (omega arith)
     (λ accepted. omega (arith, numbers-most file)) reading-answer of-reading refl (λ refusal. refl) (R .answers .answers) (R .packs)
@@ -78,7 +78,7 @@ reading-reads {file} {lent = lent} R =
 listing-reads : {tests : Check} {text lent after : List ℕ} {packed : ℕ} (L : ListingPacked tests text lent after packed)
     → PlacedTo most-file tests → (tests ≡ Accepted → length text ≤ most-figure)
     → Decided (listing-check tests text (length lent)) (length text) 0 (listing-verdict (L .listing))
-    → Reads packed (listing-verdict (L .listing)) (λ size. size)
+    → Unpacks packed (listing-verdict (L .listing)) (λ size. size)
 unfolding listing-check
 listing-reads {text = text} {lent} L placed small D =
     answer-reads D (λ size. size) (listed-placed text (length lent) placed) (omega arith)
@@ -87,27 +87,27 @@ listing-reads {text = text} {lent} L placed small D =
 
 pub list-shares-reads : (file : List ℕ) {lent after : List ℕ} {packed : ℕ}
     (L : ListingPacked (file-check (walked file)) (shares-listing file) lent after packed)
-    → Reads packed (listing-verdict (L .listing)) (λ size. size)
+    → Unpacks packed (listing-verdict (L .listing)) (λ size. size)
 list-shares-reads file L =
     listing-reads L (file-placed file) (λ accepted. omega (arith, shares-sizes.text-most file accepted)) (shares-decided file (L .answers))
 
 pub list-charges-reads : (rate : ℕ) (file : List ℕ) {lent after : List ℕ} {packed : ℕ}
     (L : ListingPacked (charges-check (record { 0 = rate }) file) (charges-listing (record { 0 = rate }) file) lent after packed)
-    → Reads packed (listing-verdict (L .listing)) (λ size. size)
+    → Unpacks packed (listing-verdict (L .listing)) (λ size. size)
 list-charges-reads rate file L =
     listing-reads L (charges-placed _ file) (λ accepted. omega (arith, charges-sizes.text-most _ file accepted))
     (charges-decided _ file (L .answers))
 
 pub list-points-reads : (file : List ℕ) {lent after : List ℕ} {packed : ℕ}
     (L : ListingPacked (file-check (walked file)) (points-listing file) lent after packed)
-    → Reads packed (listing-verdict (L .listing)) (λ size. size)
+    → Unpacks packed (listing-verdict (L .listing)) (λ size. size)
 list-points-reads file L =
     listing-reads L (file-placed file) (λ accepted. omega (arith, points-sizes.text-most file accepted)) (points-decided file (L .answers))
 
 -- ---- a shipper's day: the charge in cents
 pub charge-reads : (rate p m : ℕ) (yesterday delivered received schedules metered : List ℕ) {lent after : List ℕ} {packed : ℕ}
     → ChargePacked rate (shipper-day p m yesterday delivered received schedules metered) lent packed after
-    → Reads packed (check-verdict (charge-check rate (shipper-day p m yesterday delivered received schedules metered)))
+    → Unpacks packed (check-verdict (charge-check rate (shipper-day p m yesterday delivered received schedules metered)))
     (λ none. charge-cents rate (shipper-day p m yesterday delivered received schedules metered))
 charge-reads rate p m yesterday delivered received schedules metered C =
     let D = shipper-day p m yesterday delivered received schedules metered in

@@ -8,7 +8,7 @@ use Rattle.units.specs.declared.refusal.Check.{Check}
 use Rattle.units.specs.declared.refusal.Check.the-variants.{Accepted, Refused}
 use Rattle.units.specs.Verdict.{Verdict, Decided}
 use Rattle.units.proofs.Places.{PlacedTo}
-use Rattle.cormcushion.specs.Packed.{accepted, refused, packed-check, Reads}
+use Rattle.cormcushion.specs.Packed.{accepted, refused, packed-check, Unpacks}
 
 -- the greatest that fifteen digits hold
 abbrev pub most-figure : ℕ
@@ -18,7 +18,7 @@ most-figure = 999_999_999_999_999
 module _ {Figures : Type 0} {found : Check} {worked-out zeros : Figures} {verdict : Verdict Figures}
     (D : Decided found worked-out zeros verdict) (figure : Figures → ℕ) {most : ℕ} (placed : PlacedTo most found)
     (few : most ≤ most-figure) (small : found ≡ Accepted → figure worked-out ≤ most-figure) where
-  by-cases : (is : Check) → found ≡ is → Reads (packed-check is (figure worked-out)) verdict figure
+  by-cases : (is : Check) → found ≡ is → Unpacks (packed-check is (figure worked-out)) verdict figure
   by-cases Accepted e =
       let says = D .accepted e in
       let fits = small e in
@@ -38,14 +38,14 @@ module _ {Figures : Type 0} {found : Check} {worked-out zeros : Figures} {verdic
         of-place = λ some. omega (arith, fits, few, says .1);
       }
 
-  pub found-reads : {packed : ℕ} → packed ≡ packed-check found (figure worked-out) → Reads packed verdict figure
+  pub found-reads : {packed : ℕ} → packed ≡ packed-check found (figure worked-out) → Unpacks packed verdict figure
   found-reads e = rw e (by-cases found refl)
 
   -- the same where it is packed by its own cases
   pub answer-reads : {Answer : Type 0} (answer : Check → Figures → Answer) (pack : Answer → ℕ)
       → pack (answer Accepted worked-out) ≡ accepted (figure worked-out)
       → ((refusal : Refusal) → pack (answer (Refused refusal) worked-out) ≡ refused refusal)
-      → {given : Answer} {packed : ℕ} → given ≡ answer found worked-out → packed ≡ pack given → Reads packed verdict figure
+      → {given : Answer} {packed : ℕ} → given ≡ answer found worked-out → packed ≡ pack given → Unpacks packed verdict figure
   answer-reads answer pack accepts refuses is packs = found-reads (packs ∙ ap pack is ∙ by found)
     where
       by : (found : Check) → pack (answer found worked-out) ≡ packed-check found (figure worked-out)

@@ -32,7 +32,7 @@ abbrev pub figure-in : ℕ → ℕ
 figure-in packed = packed % one-number
 
 -- and what that is: no kind; the number that an answer has; where it is 0 the figure, else the place
-pub record Reads {Figures : Type 0} (packed : ℕ) (verdict : Verdict Figures) (figure : Figures → ℕ) : Type 0 where
+pub record Unpacks {Figures : Type 0} (packed : ℕ) (verdict : Verdict Figures) (figure : Figures → ℕ) : Type 0 where
   pub of-kind : kind-in packed ≡ 0
   pub of-number : number-in packed ≡ verdict .number
   pub of-figure : verdict .number ≡ 0 → figure-in packed ≡ figure (verdict .figures)

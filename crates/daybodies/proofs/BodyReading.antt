@@ -17,7 +17,7 @@ use Rattle.dayformat.specs.declared.form.Tag.{Tag}
 use Rattle.dayformat.specs.declared.form.Tag.the-variants.{Head, Shipper, Point, Entry, Meter}
 use Rattle.dayformat.specs.Format.{Several, body, column-in, numbers-of, widths, form}
 use Rattle.dayrows.specs.Test.{in-bounds, bounded}
-use Rattle.dayrows.proofs.Sound.{bounded-by}
+use Rattle.dayrows.proofs.Enough.{bounded-by}
 use Rattle.dayrows.proofs.Within.{bounded-each}
 use Rattle.daybodies.specs.Private.{AllWithin, KindRead}
 

@@ -9,7 +9,7 @@ use lib.ListN.{length, take, drop, set, length-set, drop-of-length-le}
 use lib.Seq.{sets, drop-cons, drop-drop}
 use Rattle.columns.specs.Column.{col}
 use Rattle.columns.proofs.Lists.{length-listed, col-listed}
-use Rattle.text.proofs.Laying.{Laying, laying-none}
+use Rattle.columns.proofs.Laying.{Laying, laying-none}
 use Rattle.bigendian.specs.Number.{value, widest}
 use Rattle.bigendian.specs.Row.{decode}
 use Rattle.dayformat.specs.declared.form.Tag.{Tag}

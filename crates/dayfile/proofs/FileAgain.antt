@@ -12,9 +12,9 @@ use Rattle.bigendian.specs.Number.{AreBytes}
 use Rattle.bigendian.specs.Row.{size, decode}
 use Rattle.dayformat.specs.declared.form.Tag.{Tag}
 use Rattle.dayformat.specs.declared.form.Tag.the-variants.{Head, Shipper, Point, Entry, Meter}
-use Rattle.dayformat.specs.Format.{body, column-in, widths, field-size, form, field}
-use Rattle.dayformat.specs.Layout.{count, no-rows, row-start, numbers-in}
-use Rattle.dayformat.specs.Private.{HasTable}
+use Rattle.dayformat.specs.Format.{body, column-in, widths, field-size, field}
+use Rattle.dayformat.specs.Layout.{no-rows, row-start, numbers-in}
+use Rattle.dayformat.specs.Private.{HasTable, Few}
 use Rattle.dayrows.specs.declared.Source.the-variants.{File}
 use Rattle.dayrows.specs.declared.Test.{Test}
 use Rattle.dayrows.specs.declared.Test.the-variants as Test
@@ -28,7 +28,7 @@ use Rattle.dayruns.specs.Run.{place-of, rows-of}
 use Rattle.dayfile.specs.File.{Tables, head-fields, head-fault, head-of, headed, tabled, tables, walked}
 use Rattle.dayfile.specs.Answer.{day-of}
 use Rattle.dayruns.proofs.Running.{field-none}
-use Rattle.dayfile.proofs.Rooms.{Few, few-none}
+use Rattle.dayfile.proofs.Rooms.{few-none}
 use Rattle.dayruns.proofs.Ending.{ended-none}
 use Rattle.dayformat.specs.DayBytes.{head-row, fields, file-of}
 use Rattle.dayfile.proofs.Agreeing.{Agree, agree-same}
@@ -153,15 +153,8 @@ module _ (file : List ℕ) (none : walked file .fault ≡ 0) where
       by p Entry t = p .0 .1
       by p Meter t = p .1
 
-  few-rows : (tag : Tag) → count (walked file .counts) tag ≤ form tag .most
-  few-rows = rw ends (by (reread .few))
-    where
-      by : Few (tables file .walk .counts) → (tag : Tag) → count (tables file .walk .counts) tag ≤ form tag .most
-      by few Head = omega arith
-      by few Shipper = few .shippers
-      by few Point = few .points
-      by few Entry = few .entries
-      by few Meter = few .meters
+  few-rows : Few (walked file .counts)
+  few-rows = rw ends (reread .few)
 
   -- and the day is sound, whatever the file is made of
   pub read-sound : Sound (day-of file) numbers

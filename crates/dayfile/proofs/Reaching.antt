@@ -17,7 +17,8 @@ use Rattle.dayruns.specs.Run.{rows-of, stops}
 use Rattle.dayruns.specs.Walk.{walk-after}
 use Rattle.dayruns.proofs.Decided.{Known, field-known, run-known, ended-has}
 use Rattle.dayfile.specs.File.{Tables, fields-from, head-fields, head-fault, headed, table-run, tabled, tables, walked}
-use Rattle.dayfile.proofs.Rooms.{Few, few-none, few-with, few-fit}
+use Rattle.dayfile.proofs.Rooms.{few-none, few-with, few-fit}
+use Rattle.dayformat.specs.Private.{Few}
 
 -- a walk that has come no further than a byte
 pub record Reached (most : ℕ) (walk : Walk) : Type 0 where

@@ -24,8 +24,8 @@ use Rattle.dayruns.specs.Run.{Fields, row-of, rows-of, stops}
 use Rattle.dayruns.specs.Walk.{walk-after}
 use Rattle.dayfile.specs.File.{Tables, fields-from, table-run, tabled}
 use Rattle.dayruns.proofs.Running.{length-row, length-rows}
-use Rattle.dayformat.specs.Private.{HasTable}
-use Rattle.dayfile.proofs.Rooms.{before, Few, None-after, few-with, none-with, starts-after, grown}
+use Rattle.dayformat.specs.Private.{HasTable, Few}
+use Rattle.dayfile.proofs.Rooms.{before, None-after, few-with, none-with, starts-after, grown}
 use Rattle.dayformat.specs.DayBytes.{row-from, fields}
 use Rattle.dayfile.proofs.Agreeing.{Agree, agree-before, agree-rows, agree-earlier}
 use Rattle.dayfile.proofs.Leading.{Leads, leads-append, leads-trans, row-stands}

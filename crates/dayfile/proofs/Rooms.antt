@@ -7,7 +7,8 @@ use Rattle.dayformat.specs.declared.form.Tag.the-variants.{Head, Shipper, Point
 use Rattle.dayformat.specs.declared.layout.Counts.{Counts}
 use Rattle.dayformat.specs.Format.{form}
 use Rattle.dayformat.specs.Layout.{no-rows, with-count, table-start, numbers-in, most-numbers}
-use Rattle.dayformat.specs.Private.{HasTable}
+use Rattle.dayformat.specs.Private.{HasTable, Few}
+use Rattle.dayformat.proofs.Accepting.{few-of}
 
 abbrev pub before : Tag → Tag
 before Head = Head
@@ -15,13 +16,6 @@ before Shipper = Head
 before Point = Shipper
 before Entry = Point
 before Meter = Entry
-
--- no table has more rows than there may be
-pub record Few (counts : Counts) : Type 0 where
-  pub shippers : counts .shippers ≤ form Shipper .most
-  pub points : counts .points ≤ form Point .most
-  pub entries : counts .entries ≤ form Entry .most
-  pub meters : counts .meters ≤ form Meter .most
 
 -- no table after the tag's has rows
 abbrev pub None-after : Tag → Counts → Type 0
@@ -32,18 +26,14 @@ None-after Entry c = c .meters ≡ 0
 None-after Meter c = Unit
 
 pub few-none : Few no-rows
-few-none = record { shippers = omega arith; points = omega arith; entries = omega arith; meters = omega arith }
+few-none = few-of no-rows (omega arith) (omega arith) (omega arith) (omega arith)
 
 pub few-with : (tag : Tag) (c : Counts) (rows : ℕ) → Few c → rows ≤ form tag .most → Few (with-count c tag rows)
 few-with Head c rows few l = few
-few-with Shipper c rows few l =
-    record { shippers = l; points = few .points; entries = few .entries; meters = few .meters }
-few-with Point c rows few l =
-    record { shippers = few .shippers; points = l; entries = few .entries; meters = few .meters }
-few-with Entry c rows few l =
-    record { shippers = few .shippers; points = few .points; entries = l; meters = few .meters }
-few-with Meter c rows few l =
-    record { shippers = few .shippers; points = few .points; entries = few .entries; meters = l }
+few-with Shipper c rows few l = few-of _ l (few Point) (few Entry) (few Meter)
+few-with Point c rows few l = few-of _ (few Shipper) l (few Entry) (few Meter)
+few-with Entry c rows few l = few-of _ (few Shipper) (few Point) l (few Meter)
+few-with Meter c rows few l = few-of _ (few Shipper) (few Point) (few Entry) l
 
 pub none-with : (tag : Tag) → HasTable tag → (c : Counts) (rows : ℕ) → None-after (before tag) c → None-after tag (with-count c tag rows)
 none-with Head t c rows none = absurd t
@@ -71,9 +61,9 @@ module _ (c : Counts) where
   pub room-after : (tag : Tag) → Few c → table-start c tag + form tag .most * form tag .columns ≤ most-numbers
   room-after Head few = omega arith
   room-after Shipper few = omega arith
-  room-after Point few = omega (arith, few .shippers)
-  room-after Entry few = omega (arith, few .shippers, few .points)
-  room-after Meter few = omega (arith, few .shippers, few .points, few .entries)
+  room-after Point few = omega (arith, few Shipper)
+  room-after Entry few = omega (arith, few Shipper, few Point)
+  room-after Meter few = omega (arith, few Shipper, few Point, few Entry)
 
   pub few-fit : Few c → numbers-in c ≤ most-numbers
-  few-fit few = omega (arith, few .shippers, few .points, few .entries, few .meters)
+  few-fit few = omega (arith, few Shipper, few Point, few Entry, few Meter)

@@ -20,8 +20,8 @@ use Rattle.dayruns.specs.declared.walk.Walk.{Walk}
 use Rattle.dayruns.specs.Walk.{walk-after}
 use Rattle.dayfile.specs.File.{Tables, fields-from, table-run, tabled}
 use Rattle.dayfile.specs.Private.{Tabled}
-use Rattle.dayformat.specs.Private.{HasTable}
-use Rattle.dayfile.proofs.Rooms.{before, Few, None-after, few-with, none-with, starts-after, grown, room-after}
+use Rattle.dayformat.specs.Private.{HasTable, Few}
+use Rattle.dayfile.proofs.Rooms.{before, None-after, few-with, none-with, starts-after, grown, room-after}
 use Rattle.dayruns.proofs.Running.{length-rows}
 use Rattle.dayruns.proofs.Runs.{run-same, run-front}
 

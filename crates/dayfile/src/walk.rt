@@ -1,6 +1,7 @@
 // A file walked through field by field.
 use dayfields::take_field;
 use dayformat::Counts;
+use dayformat::HEAD_FIELD;
 use dayformat::Tag;
 use dayrows::Source;
 use dayruns::Walk;
@@ -32,7 +33,7 @@ fn begin(file: &[u8]) -> Walk
     }
     Walk {
         fault,
-        place: 15,
+        place: HEAD_FIELD,
         counts,
     }
 }

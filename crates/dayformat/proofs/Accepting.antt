@@ -12,6 +12,14 @@ use Rattle.dayformat.specs.Layout.{count}
 use Rattle.dayformat.specs.Acceptance.{counts-check}
 use Rattle.dayformat.specs.Private.{Few}
 
+pub few-of : (counts : Counts) → count counts Shipper ≤ form Shipper .most → count counts Point ≤ form Point .most
+    → count counts Entry ≤ form Entry .most → count counts Meter ≤ form Meter .most → Few counts
+few-of counts s p e m Head = omega arith
+few-of counts s p e m Shipper = s
+few-of counts s p e m Point = p
+few-of counts s p e m Entry = e
+few-of counts s p e m Meter = m
+
 pub counts-accepted : (counts : Counts) → counts-check counts ≡ Check.Accepted → Few counts
 unfolding counts-check
 counts-accepted counts e =
@@ -19,16 +27,8 @@ counts-accepted counts e =
     let entries = both-accepted _ _ (meters .0) in
     let points = both-accepted _ _ (entries .0) in
     let shippers = both-accepted _ _ (points .0) in
-    by (leb-true _ _ (kept _ _ (shippers .1))) (leb-true _ _ (kept _ _ (points .1))) (leb-true _ _ (kept _ _ (entries .1)))
-    (leb-true _ _ (kept _ _ (meters .1)))
-  where
-    by : count counts Shipper ≤ form Shipper .most → count counts Point ≤ form Point .most → count counts Entry ≤ form Entry .most
-        → count counts Meter ≤ form Meter .most → Few counts
-    by s p e m Head = omega arith
-    by s p e m Shipper = s
-    by s p e m Point = p
-    by s p e m Entry = e
-    by s p e m Meter = m
+    few-of counts (leb-true _ _ (kept _ _ (shippers .1))) (leb-true _ _ (kept _ _ (points .1)))
+    (leb-true _ _ (kept _ _ (entries .1))) (leb-true _ _ (kept _ _ (meters .1)))
 
 pub counts-accept : (counts : Counts) → Few counts → counts-check counts ≡ Check.Accepted
 unfolding counts-check

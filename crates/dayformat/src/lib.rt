@@ -11,6 +11,7 @@ pub use form::ENTRY_COLUMNS;
 pub use form::ENTRY_FIELD;
 pub use form::Form;
 pub use form::GIGAJOULES;
+pub use form::HEAD_FIELD;
 pub use form::HEADER;
 pub use form::HOUR;
 pub use form::LENGTH_WIDTH;

@@ -2,6 +2,6 @@ pub mod Faults
 pub mod Rising
 pub mod Same
 pub mod Searches
-pub mod Sound
 pub mod Within
 pub mod SoundRows
+pub mod Enough

@@ -9,7 +9,7 @@ use lib.ListN.{length, drop, drop-of-length-le}
 use lib.Seq.{sets, length-sets, drop-cons}
 use Rattle.columns.specs.Column.{col}
 use Rattle.columns.proofs.Lists.{length-listed, col-listed, sets-append}
-use Rattle.text.proofs.Laying.{Laying, laying-none}
+use Rattle.columns.proofs.Laying.{Laying, laying-none}
 use Rattle.bigendian.specs.Number.{bytes, widest}
 use Rattle.bigendian.specs.Row.{encode}
 use Rattle.bigendian.proofs.Numbers.{length-bytes, bytes-above}

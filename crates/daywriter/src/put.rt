@@ -2,6 +2,7 @@
 use bigendian::put_number;
 use dayformat::Counts;
 use dayformat::Day;
+use dayformat::HEAD_FIELD;
 use dayformat::HEADER;
 use dayformat::LENGTH_WIDTH;
 use dayformat::Tag;
@@ -78,7 +79,7 @@ pub fn put_day(day: Day, numbers: &[usize], block: &mut [u8])
         head.compressor.0 as usize,
     ];
     put_field(Tag::Head, &row, 0, block, 0);
-    let points = put_fields(Tag::Shipper, counts, numbers, block, 15);
+    let points = put_fields(Tag::Shipper, counts, numbers, block, HEAD_FIELD);
     let entries = put_fields(Tag::Point, counts, numbers, block, points);
     let meters = put_fields(Tag::Entry, counts, numbers, block, entries);
     put_fields(Tag::Meter, counts, numbers, block, meters);

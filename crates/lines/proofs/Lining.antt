@@ -11,7 +11,8 @@ use lib.Seq.{length-sets, length-take-le, drop-cons, take-all}
 use Rattle.columns.specs.Column.{col}
 use Rattle.units.specs.declared.refusal.Refusal.{Refusal}
 use Rattle.text.specs.Text.{decimal, Laid}
-use Rattle.text.proofs.Laying.{laid-both, sets-past}
+use Rattle.text.proofs.Laying.{laid-both}
+use Rattle.columns.proofs.Laying.{sets-past}
 use Rattle.lines.specs.Line.{most-figures, spaced, labelled, decimals, line, title, refused}
 
 -- a text and the byte that ends it

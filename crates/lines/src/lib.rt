@@ -1,6 +1,6 @@
 // The lines of a listing, laid into a lent block. Every input is taken: what lies past the block is dropped.
 use columns::lesser;
-use text::put_byte;
+use columns::put_byte;
 use text::put_bytes;
 use text::put_decimal;
 use units::Refusal;

@@ -10,16 +10,17 @@ use Rattle.dayformat.specs.declared.day.Day.{Day}
 use Rattle.dayformat.specs.declared.layout.Counts.{Counts}
 use Rattle.dayformat.specs.Layout.{numbers-in}
 use Rattle.dayformat.specs.Acceptance.{counts-check}
-use Rattle.dayvalues.specs.Column.{column-check}
+use Rattle.dayvalues.specs.declared.column.ShipperColumn.the-variants.{FirmMdq, AuctionMdq, FirmSchedule, AuctionSchedule, LowerTierSchedule}
+use Rattle.dayvalues.specs.Column.{place-of, column-check}
 
 -- the five columns, in tag 2's order
 unfoldable pub columns-check : Counts → List ℕ → Check
 columns-check counts numbers =
-    column-check counts numbers 1 most-rows
-    then column-check counts numbers 2 most-rows
-    then column-check counts numbers 3 most-rows
-    then column-check counts numbers 4 most-rows
-    then column-check counts numbers 5 most-rows
+    column-check counts numbers (place-of FirmMdq) most-rows
+    then column-check counts numbers (place-of AuctionMdq) most-rows
+    then column-check counts numbers (place-of FirmSchedule) most-rows
+    then column-check counts numbers (place-of AuctionSchedule) most-rows
+    then column-check counts numbers (place-of LowerTierSchedule) most-rows
 
 -- 9 and 3: the counts, the capacities, then each column
 unfoldable pub early-check : Day → List ℕ → Check

@@ -78,12 +78,12 @@ module _ (list : List ℕ) (side : ℕ) where
           omega (arith, W .there, place-is row, entry-size)
 
   -- ---- an accepted list has no fault, and nothing follows its last entry
-  pub record Sound : Type 0 where
+  pub record SoundList : Type 0 where
     pub faultless : entry-walk list side .fault ≡ 0
     pub whole : length list ≡ entry-rows list side * 12
 
   module _ (point : ℕ) where
-    pub accepted-sound : list-check list side point ≡ Check.Accepted → Sound
+    pub accepted-sound : list-check list side point ≡ Check.Accepted → SoundList
     unfolding list-check
     accepted-sound e =
         let none = faultless (entry-walk list side) (both-accepted _ _ e .1) in

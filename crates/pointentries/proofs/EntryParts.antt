@@ -23,7 +23,7 @@ use Rattle.dayruns.specs.Run.{place-of, row-of, rows-of}
 use Rattle.pointentries.specs.Entries.{entries, entry-rows, list-check, is-of, first-entry, many-entries, start-in, long-in, asked, entries-check, Part}
 use Rattle.dayruns.proofs.Running.{length-row}
 use Rattle.pointentries.proofs.EntryKeys.{points-ordered}
-use Rattle.pointentries.proofs.EntryLists.{place-is, rows-few, Sound, accepted-sound}
+use Rattle.pointentries.proofs.EntryLists.{place-is, rows-few, SoundList, accepted-sound}
 use Rattle.dayformat.proofs.Sizes.{entry-size}
 
 -- ---- side 1 asks for the delivery list, any other for the receipt list
@@ -79,7 +79,7 @@ module _ (list : List ℕ) (side point : ℕ) where
   many = many-entries list side point
 
   module _ (accepted : list-check list side point ≡ Check.Accepted) where
-    sound : Sound list side
+    sound : SoundList list side
     sound = accepted-sound list side point accepted
 
     rows-are : length list / 12 ≡ rows

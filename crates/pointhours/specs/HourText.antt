@@ -13,7 +13,8 @@ use Rattle.pointshares.specs.Answer.{hour-check}
 use Rattle.dayformat.specs.declared.form.Tag.the-variants.{Shipper}
 use Rattle.dayformat.specs.declared.layout.Counts.{Counts}
 use Rattle.dayformat.specs.Layout.{count}
-use Rattle.dayvalues.specs.Column.{column}
+use Rattle.dayvalues.specs.declared.column.ShipperColumn.the-variants.{FirmMdq}
+use Rattle.dayvalues.specs.Column.{place-of, column}
 use Rattle.dayvalues.specs.Shippers.{shipper-of}
 
 -- a line for each of so many entries, shipper and share; or the point's own refusal in their place
@@ -33,4 +34,4 @@ abbrev pub shipper-row : Counts → (ℕ → ℕ) → ℕ → ℕ
 shipper-row counts numbers shipper = first (count counts Shipper) (λ row. eqb (shipper-of counts numbers row) shipper)
 
 abbrev pub firm-mdq : Counts → (ℕ → ℕ) → ℕ → ℕ
-firm-mdq counts numbers shipper = column counts numbers 1 (shipper-row counts numbers shipper)
+firm-mdq counts numbers shipper = column counts numbers (place-of FirmMdq) (shipper-row counts numbers shipper)

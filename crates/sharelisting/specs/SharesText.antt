@@ -1,4 +1,4 @@
--- 01: the listing of a day's shares. DAY number, FIRM total, LEFT; then shipper, firm, auction, lower tier.
+-- 01, "Figures to check against": the listing of a day's shares. DAY number, FIRM total, LEFT; then shipper, firm, auction, lower tier.
 use mathlib.Core.List.{List, [], _∷_, _++_}
 use Prim.Native.Nat.{ℕ}
 use Rattle.columns.specs.Column.{col, joined}

@@ -1,4 +1,5 @@
--- 01: the part of c that a row has by its ratio, c × weight / the sum of all weights, rounded down; zero where that sum is zero.
+-- 01, "A day's shares": the part of c that a row has by its ratio, c × weight / the sum of all weights, rounded down; zero where that
+-- sum is zero.
 use Prim.Native.Nat.{ℕ, _*_, _/_}
 use Rattle.columns.specs.Sum.{sum}
 

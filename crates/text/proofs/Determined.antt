@@ -1,8 +1,8 @@
 -- Two outcomes that meet a statement of this crate are equal.
 use mathlib.Core.Path.{_≡_, sym, _∙_}
 use mathlib.Core.List.{List}
-use Prim.Native.Nat.{ℕ, _+_}
-use lib.ListN.{length, set}
+use Prim.Native.Nat.{ℕ}
+use lib.ListN.{length}
 use Rattle.text.specs.Text.{decimal, Laid}
 
 pub length-determined : (number : ℕ) {r₁ r₂ : ℕ} → r₁ ≡ length (decimal number) → r₂ ≡ length (decimal number) → r₁ ≡ r₂
@@ -11,7 +11,3 @@ length-determined number e h = e ∙ sym h
 pub laid-determined : {bytes lent : List ℕ} {at r₁ r₂ : ℕ} {l₁ l₂ : List ℕ}
     → Laid bytes lent at r₁ l₁ → Laid bytes lent at r₂ l₂ → (r₁ ≡ r₂) × (l₁ ≡ l₂)
 laid-determined a b = (a .counts ∙ sym (b .counts), a .lays ∙ sym (b .lays))
-
-pub put-byte-determined : (lent : List ℕ) (at place byte : ℕ) {l₁ l₂ : List ℕ}
-    → l₁ ≡ set lent (at + place) byte → l₂ ≡ set lent (at + place) byte → l₁ ≡ l₂
-put-byte-determined lent at place byte e h = e ∙ sym h

@@ -1,7 +1,7 @@
 // Numbers and words as bytes, laid into a lent block. Every input is taken: what lies past the block is dropped.
+use columns::put_byte;
 ghost use mathlib.Core.Path.{_≡_};
-ghost use Prim.Native.Nat.{_+_};
-ghost use lib.ListN.{length, set};
+ghost use lib.ListN.{length};
 ghost use Rattle.text.specs.Text.{last-digit, decimal, Laid};
 
 // How many bytes spell a number.
@@ -22,19 +22,6 @@ fn last_digit(number: u64) -> u8
     ensures { λ r. ⌜ r ≡ last-digit number ⌝ }
 {
     48 + (number % 10) as u8
-}
-
-// Lays a byte so many places past `at`. The place is compared with what the block has past `at`, for the sum may not fit.
-pub fn put_byte(byte: u8, text: &mut [u8], at: usize, place: usize)
-    ensures { λ _. ⌜ now (text .exit) ≡ set (now (text .entry)) (at + place) byte ⌝ }
-{
-    if text.len() <= at {
-        return;
-    }
-    if text.len() - at <= place {
-        return;
-    }
-    text[at + place] = byte;
 }
 
 // Lays a number's digits from `at` on, the last of them first, and returns how many there are.

@@ -1,7 +1,7 @@
 -- Of the rest the bytes before `place` are still to lay, the last of them next.
 use Prim.Native.Nat.{min}
 use borrow.Author.Needs.{needs}
-use Rattle.text.proofs.Laying.{Laying, laying-none}
+use Rattle.columns.proofs.Laying.{Laying, laying-none}
 use Rattle.bigendian.specs.Number.{bytes, widest}
 use Rattle.bigendian.proofs.Laying.{number-next, number-all}
 use Rattle.bigendian.proofs.put_number.Statement.{statement}

@@ -8,7 +8,7 @@ use Rattle.dayformat.specs.declared.form.Tag.the-variants.{Meter}
 use Rattle.dayformat.specs.Format.{form}
 use Rattle.dayformat.specs.Layout.{row-start}
 use Rattle.dayrows.specs.Test.{named}
-use Rattle.dayrows.proofs.Sound.{listed-shipper}
+use Rattle.dayrows.proofs.Enough.{listed-shipper}
 use Rattle.daybodies.proofs.Bodies.{kept-room}
 use Rattle.dayruns.proofs.Glancing.{unsure, glanced}
 use borrow.Author.Needs.{needs}

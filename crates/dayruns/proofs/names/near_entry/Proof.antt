@@ -4,7 +4,7 @@ use native.Mathlib.Omega.{arith}
 use Rattle.columns.specs.Column.{col}
 use Rattle.dayformat.specs.declared.form.Tag.the-variants.{Point}
 use Rattle.dayformat.specs.Layout.{table-start}
-use Rattle.dayrows.proofs.Sound.{listed-shipper, listed-point}
+use Rattle.dayrows.proofs.Enough.{listed-shipper, listed-point}
 use borrow.Author.Needs.{needs}
 use Rattle.dayruns.proofs.names.near_entry.Statement.{statement}
 use Rattle.dayruns.proofs.names.near_entry.Tie as tie
