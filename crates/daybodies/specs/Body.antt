@@ -13,7 +13,7 @@ use Rattle.dayformat.specs.Layout.{row-start}
 use Rattle.dayrows.specs.declared.Source.the-variants.{File}
 use Rattle.dayrows.specs.declared.Test.the-variants.{Bounds, Mdq}
 use Rattle.dayrows.specs.Test.{rises, passes}
-use Rattle.dayfields.specs.Field.{broken, with-row}
+use Rattle.dayrows.specs.Whole.{broken, with-row}
 
 -- a field is whole, and its row has room
 unfoldable pub ready : Counts → List ℕ → Tag → ℕ → ℕ → ℕ → Bool

@@ -1,7 +1,6 @@
 // Each tag's row, read kind by kind. With each tag named, its sizes and places are constants.
 use crate::key::is_next;
 use crate::kind::read_kind;
-use dayfields::breaks;
 use dayformat::BACKHAUL;
 use dayformat::Counts;
 use dayformat::GIGAJOULES;
@@ -12,6 +11,7 @@ use dayformat::SIDE;
 use dayformat::Tag;
 use dayformat::form_of;
 use dayformat::row_place;
+use dayrows::breaks;
 use dayrows::is_idle;
 ghost use mathlib.Core.Path.{_≡_};
 ghost use mathlib.Core.Bool.{false, cond, not};

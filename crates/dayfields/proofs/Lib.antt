@@ -1,4 +1,3 @@
-pub mod Breaking
 pub mod Determined
 pub mod RowReading
 pub mod Taking

@@ -1,5 +1,4 @@
 // One field of a file or of a list of entries, taken in full and tested, opened.
-mod field;
 mod row;
 
 use crate::row::read_row;
@@ -8,8 +7,8 @@ use dayformat::HEADER;
 use dayformat::Tag;
 use dayformat::row_place;
 use dayrows::Source;
+use dayrows::breaks;
 use dayrows::row_fault;
-pub use field::breaks;
 ghost use Rattle.dayfields.specs.Field.{Taken};
 
 // The number that refuses the field at a byte, 0 for none. The row of a field that is whole goes into the numbers.

@@ -10,7 +10,7 @@ use lib.Seq.{getD-at}
 use Rattle.columns.specs.Column.{col, joined}
 use Rattle.dayformat.specs.declared.form.Tag.{Tag}
 use Rattle.dayformat.specs.Format.{form, field}
-use Rattle.dayfields.proofs.Breaking.{Whole}
+use Rattle.dayrows.proofs.Breaking.{Whole}
 use Rattle.dayruns.specs.Run.{begun}
 
 abbrev pub Above : ℕ → List ℕ → Type 0

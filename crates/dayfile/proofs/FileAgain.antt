@@ -22,8 +22,8 @@ use Rattle.dayrows.specs.Test.{passes, in-bounds}
 use Rattle.dayrows.specs.Private.{Sound}
 use Rattle.dayrows.proofs.Faults.{fault-none}
 use Rattle.dayrows.proofs.Within.{passes-bounded, within-bounds}
-use Rattle.dayfields.specs.Field.{broken}
-use Rattle.dayfields.proofs.Breaking.{Whole, broken-none}
+use Rattle.dayrows.specs.Whole.{broken}
+use Rattle.dayrows.proofs.Breaking.{Whole, broken-none}
 use Rattle.dayruns.specs.Run.{place-of, rows-of}
 use Rattle.dayfile.specs.File.{Tables, head-fields, head-fault, head-of, headed, tabled, tables, walked}
 use Rattle.dayfile.specs.Answer.{day-of}

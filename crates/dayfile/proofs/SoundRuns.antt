@@ -17,7 +17,7 @@ use Rattle.dayrows.specs.declared.Test.{Test}
 use Rattle.dayrows.specs.Test.{passes}
 use Rattle.dayrows.proofs.Faults.{fault-none}
 use Rattle.dayrows.proofs.Same.{Earlier, passes-same}
-use Rattle.dayfields.proofs.Breaking.{Whole, broken-none}
+use Rattle.dayrows.proofs.Breaking.{Whole, broken-none}
 use Rattle.dayruns.specs.Run.{Fields, place-of, row-of, rows-of, field-fault, stops, run-rows}
 use Rattle.dayruns.proofs.Running.{field-none, goes-sound, length-row}
 use Rattle.dayfile.proofs.FieldsThere.{field-there}

@@ -13,7 +13,8 @@ use Rattle.dayformat.specs.declared.layout.Counts.{Counts}
 use Rattle.dayformat.specs.Format.{column-in, widths}
 use Rattle.dayformat.specs.Layout.{no-rows, with-count}
 use Rattle.dayrows.specs.declared.Source.the-variants as Source
-use Rattle.dayfields.specs.Field.{with-row, Taken}
+use Rattle.dayfields.specs.Field.{Taken}
+use Rattle.dayrows.specs.Whole.{with-row}
 use Rattle.dayruns.specs.declared.run.Run.{Run}
 use Rattle.dayruns.specs.declared.walk.Walk.{Walk}
 use Rattle.dayruns.specs.Run.{place-of, rows-of, field-fault, laid, Ran}

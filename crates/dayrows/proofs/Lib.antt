@@ -5,3 +5,4 @@ pub mod Searches
 pub mod Within
 pub mod SoundRows
 pub mod Enough
+pub mod Breaking

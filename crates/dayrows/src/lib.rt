@@ -1,5 +1,7 @@
-// 01's tests of a row among a day's numbers, opened: 3, 5 and 4. Numbers past the end of the list count as zero.
+// 01's tests of a field, opened: 1 and 2 of its bytes, and 3, 5 and 4 of its row among a day's numbers. Numbers past the end of the list
+// count as zero.
 mod bounds;
+mod field;
 mod keys;
 mod mdqs;
 
@@ -13,6 +15,7 @@ use dayformat::Tag;
 use dayformat::count_of;
 use dayformat::form_of;
 use dayformat::row_place;
+pub use field::breaks;
 pub use mdqs::is_idle;
 ghost use mathlib.Core.Path.{_≡_};
 ghost use Prim.Native.Nat.{_^_, _<_};

@@ -23,7 +23,7 @@ use Rattle.dayformat.specs.Format.{field-size, form}
 use Rattle.dayrows.specs.declared.Source.{Source}
 use Rattle.dayrows.specs.declared.Test.the-variants.{Bounds, Key, Mdq}
 use Rattle.dayrows.specs.Test.{passes, fault}
-use Rattle.dayfields.specs.Field.{broken}
+use Rattle.dayrows.specs.Whole.{broken}
 use Rattle.dayruns.specs.declared.walk.Walk.{Walk}
 use Rattle.dayruns.specs.Run.{Fields, place-of, field-fault, begun, run-rows, run-of}
 use Rattle.dayruns.specs.Walk.{ended, file-check}

@@ -21,7 +21,8 @@ use Rattle.dayrows.specs.declared.Test.the-variants.{Bounds, Key, Mdq}
 use Rattle.dayrows.specs.Test.{rises, named, passes, fault}
 use Rattle.dayrows.proofs.Faults.{none-fault}
 use Rattle.dayrows.proofs.Within.{both}
-use Rattle.dayfields.specs.Field.{broken, with-row, Taken}
+use Rattle.dayfields.specs.Field.{Taken}
+use Rattle.dayrows.specs.Whole.{broken, with-row}
 use Rattle.dayfields.proofs.Taking.{taken-whole}
 use Rattle.daybodies.specs.Body.{ready, orderly, BodyRead}
 use Rattle.daybodies.proofs.Bodies.{is-ready, kept-row}

@@ -25,8 +25,9 @@ use Rattle.dayrows.specs.declared.Test.the-variants as Test
 use Rattle.dayrows.specs.Test.{fault}
 use Rattle.dayrows.proofs.Faults.{fault-none}
 use Rattle.dayrows.proofs.Within.{both, passes-bounded}
-use Rattle.dayfields.specs.Field.{broken, with-row, Taken}
-use Rattle.dayfields.proofs.Breaking.{broken-none}
+use Rattle.dayfields.specs.Field.{Taken}
+use Rattle.dayrows.specs.Whole.{broken, with-row}
+use Rattle.dayrows.proofs.Breaking.{broken-none}
 use Rattle.dayruns.specs.declared.run.Run.{Run}
 use Rattle.dayruns.specs.Run.{Fields, place-of, row-of, rows-of, field-fault, begun, stops, laid, taken-rows, run-rows, Ran}
 

@@ -18,7 +18,7 @@ use Rattle.dayformat.specs.Format.{form}
 use Rattle.dayformat.specs.Layout.{table-start}
 use Rattle.dayrows.specs.declared.Source.{Source}
 use Rattle.dayrows.specs.Test.{passes, fault}
-use Rattle.dayfields.specs.Field.{broken}
+use Rattle.dayrows.specs.Whole.{broken}
 use Rattle.dayruns.specs.Run.{Fields, place-of, rows-of, field-fault, stops, run-rows, run-of, laid}
 use Rattle.dayruns.proofs.Fronts.{front-more}
 use Rattle.dayruns.proofs.Running.{length-rows}

@@ -15,7 +15,7 @@ use Rattle.dayformat.specs.Format.{widths, header, field-size, form}
 use Rattle.dayformat.specs.Layout.{table-start}
 use Rattle.dayrows.specs.declared.Source.{Source}
 use Rattle.dayrows.specs.Test.{fault}
-use Rattle.dayfields.specs.Field.{broken}
+use Rattle.dayrows.specs.Whole.{broken}
 use Rattle.dayruns.specs.declared.run.Run.{Run}
 
 -- the fields of a tag from a byte of a file on, and what their rows are tested against

@@ -12,7 +12,7 @@ use Rattle.units.specs.declared.refusal.Check.the-variants as Check
 use Rattle.units.specs.Refusals.{_then_, keep}
 use Rattle.units.proofs.Checks.{both-accepted}
 use Rattle.dayformat.specs.declared.form.Tag.the-variants as Tag
-use Rattle.dayfields.proofs.Breaking.{broken-none}
+use Rattle.dayrows.proofs.Breaking.{broken-none}
 use Rattle.dayruns.specs.declared.run.Run.{Run}
 use Rattle.dayruns.specs.declared.walk.Walk.{Walk}
 use Rattle.dayruns.specs.Run.{Fields, place-of, rows-of, field-fault, stops, run-of, laid, Ran}

@@ -22,8 +22,8 @@ use Rattle.dayrows.specs.declared.Test.{Test}
 use Rattle.dayrows.specs.declared.Test.the-variants.{Bounds, Key, Mdq}
 use Rattle.dayrows.specs.Test.{in-bounds, bounded, rises, named, starved, passes, fault}
 use Rattle.dayrows.proofs.Faults.{none-fault}
-use Rattle.dayfields.specs.Field.{broken}
-use Rattle.dayfields.proofs.Breaking.{whole-none}
+use Rattle.dayrows.specs.Whole.{broken}
+use Rattle.dayrows.proofs.Breaking.{whole-none}
 use Rattle.dayruns.specs.Run.{place-of, rows-of, field-fault}
 use Rattle.dayfile.specs.File.{head-fields, head-fault, head-of, headed}
 use Rattle.dayformat.specs.DayBytes.{head-row}

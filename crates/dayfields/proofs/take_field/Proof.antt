@@ -1,7 +1,7 @@
 -- A broken field is refused before its row is read; a whole one is tested where its row then stands.
 use mathlib.Core.Path.{sym, _∙_}
 use native.Mathlib.Omega.{arith}
-use Rattle.dayfields.proofs.Breaking.{Whole, broken-none}
+use Rattle.dayrows.proofs.Breaking.{Whole, broken-none}
 use Rattle.dayfields.proofs.Taking.{taken-broken, taken-whole}
 use borrow.Author.Needs.{needs}
 use Rattle.dayfields.proofs.take_field.Statement.{statement}

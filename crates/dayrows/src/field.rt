@@ -5,7 +5,7 @@ use dayformat::LENGTH_WIDTH;
 use dayformat::Tag;
 use dayformat::form_of;
 ghost use mathlib.Core.Path.{_≡_};
-ghost use Rattle.dayfields.specs.Field.{broken};
+ghost use Rattle.dayrows.specs.Whole.{broken};
 
 // The first of 1 (header), 2 and 1 (body) that a field is refused by, 0 for none.
 pub fn breaks(file: &[u8], tag: Tag, at: usize) -> u8

@@ -12,7 +12,7 @@ use Rattle.bigendian.specs.Number.{value}
 use Rattle.dayformat.specs.declared.form.Tag.{Tag}
 use Rattle.dayformat.specs.declared.form.Form.{Form}
 use Rattle.dayformat.specs.Format.{field-size, form}
-use Rattle.dayfields.specs.Field.{broken}
+use Rattle.dayrows.specs.Whole.{broken}
 
 -- past the file there is no header
 pub past : (file : List ℕ) (tag : Tag) (at : ℕ) → length file < at → 1 ≡ broken file tag at

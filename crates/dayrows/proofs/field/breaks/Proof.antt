@@ -1,8 +1,8 @@
 -- Each answer is the first of the tests that the field fails.
-use Rattle.dayfields.proofs.Breaking.{past, header-cut, other-tag, other-length, body-cut, unbroken}
+use Rattle.dayrows.proofs.Breaking.{past, header-cut, other-tag, other-length, body-cut, unbroken}
 use borrow.Author.Needs.{needs}
-use Rattle.dayfields.proofs.field.breaks.Statement.{statement}
-use Rattle.dayfields.proofs.field.breaks.Tie as tie
+use Rattle.dayrows.proofs.field.breaks.Statement.{statement}
+use Rattle.dayrows.proofs.field.breaks.Tie as tie
 
 returns : tie.Need-returns
 returns c = past _ _ _ (c .if1 .taken)
