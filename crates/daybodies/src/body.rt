@@ -6,6 +6,7 @@ use dayformat::Counts;
 use dayformat::GIGAJOULES;
 use dayformat::HEADER;
 use dayformat::HOUR;
+use dayformat::METER_HOURS;
 use dayformat::NAME;
 use dayformat::SIDE;
 use dayformat::Tag;
@@ -32,14 +33,12 @@ const BEHIND_NAMES: usize = BEHIND_SIDE + 2 * NAME.width;
 
 const BEHIND_MDQS: usize = BEHIND_NAME + 2 * GIGAJOULES.width;
 
-const BEHIND_HOURS: usize = BEHIND_MDQS + HOURS * HOUR.width;
+const BEHIND_HOURS: usize = BEHIND_MDQS + METER_HOURS * HOUR.width;
 
 const BEHIND_SCHEDULES: usize = BEHIND_HOURS + 4 * GIGAJOULES.width;
 
-// A meter's hours: 11 delivered ones of yesterday, 24 delivered, 24 received; so where its schedules and backhaul stand in the row.
-const HOURS: usize = 11 + 24 + 24;
-
-const SCHEDULES_AT: usize = 3 + HOURS;
+// Where a meter's schedules and its backhaul metered stand in the row.
+const SCHEDULES_AT: usize = 3 + METER_HOURS;
 
 const BACKHAUL_AT: usize = SCHEDULES_AT + 4;
 
@@ -139,7 +138,15 @@ pub fn read_meter(counts: Counts, file: &[u8], at: usize, row: u32, numbers: &mu
         to + 1,
         shipper,
     );
-    let hours = read_kind(file, at + BEHIND_MDQS, HOURS, HOUR, numbers, to + 3, mdqs);
+    let hours = read_kind(
+        file,
+        at + BEHIND_MDQS,
+        METER_HOURS,
+        HOUR,
+        numbers,
+        to + 3,
+        mdqs,
+    );
     let schedules = read_kind(
         file,
         at + BEHIND_HOURS,

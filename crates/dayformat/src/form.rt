@@ -74,26 +74,33 @@ pub const LENGTH_WIDTH: usize = 2;
 
 pub const HEADER: usize = 1 + LENGTH_WIDTH;
 
-// How many numbers a body holds, and in how many bytes.
-pub const HEAD_COLUMNS: usize = 3;
+// How many numbers a body holds, kind by kind, and in how many bytes.
+pub const HEAD_COLUMNS: usize = 1 + 2;
 
-pub const SHIPPER_COLUMNS: usize = 6;
+const HEAD_BODY: usize = NUMBER.width + 2 * GIGAJOULES.width;
 
-pub const POINT_COLUMNS: usize = 3;
+pub const SHIPPER_COLUMNS: usize = 1 + 5;
 
-pub const ENTRY_COLUMNS: usize = 4;
+const SHIPPER_BODY: usize = NAME.width + 5 * GIGAJOULES.width;
 
-pub const METER_COLUMNS: usize = 68;
+pub const POINT_COLUMNS: usize = 1 + 1 + 1;
 
-const HEAD_BODY: usize = 12;
+const POINT_BODY: usize = SIDE.width + NAME.width + HOUR.width;
 
-const SHIPPER_BODY: usize = 22;
+pub const ENTRY_COLUMNS: usize = 1 + 2 + 1;
 
-const POINT_BODY: usize = 7;
+const ENTRY_BODY: usize = SIDE.width + 2 * NAME.width + HOUR.width;
 
-const ENTRY_BODY: usize = 9;
+// A meter's hours: 11 delivered ones of yesterday, 24 delivered, 24 received.
+pub const METER_HOURS: usize = 11 + 24 + 24;
 
-const METER_BODY: usize = 270;
+pub const METER_COLUMNS: usize = 1 + 2 + METER_HOURS + 4 + 2;
+
+const METER_BODY: usize = NAME.width
+    + 2 * GIGAJOULES.width
+    + METER_HOURS * HOUR.width
+    + 4 * GIGAJOULES.width
+    + 2 * BACKHAUL.width;
 
 // How many bytes a field has.
 pub const HEAD_FIELD: usize = HEADER + HEAD_BODY;

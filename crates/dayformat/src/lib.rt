@@ -15,6 +15,7 @@ pub use form::HEAD_FIELD;
 pub use form::HEADER;
 pub use form::HOUR;
 pub use form::LENGTH_WIDTH;
+pub use form::METER_HOURS;
 pub use form::MOST_ENTRIES;
 pub use form::NAME;
 pub use form::NUMBER;
