@@ -6,9 +6,9 @@ use Rattle.units.specs.declared.Rate.{Rate}
 use Rattle.units.specs.declared.refusal.Check.{Check}
 use Rattle.units.specs.Bound.{most-rate}
 use Rattle.units.proofs.Checks.{accepts-both, accepts-kept}
+use Rattle.tariff.specs.Charges.{overrun-check}
 use Rattle.overruns.specs.Day.{ShipperDay, day-answer, day-verdict}
 use Rattle.overruns.proofs.Promises.{day-kept}
-use Rattle.tariff.specs.Charges.{overrun-check}
 
 pub charges-accept : (rate : Rate) (D : ShipperDay) → rate .0 ≤ most-rate
     → overrun-check rate (day-verdict (day-answer D) .figures .greatest) ≡ Check.Accepted

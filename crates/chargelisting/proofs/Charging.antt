@@ -2,16 +2,16 @@
 use mathlib.Core.Path.{_≡_, ap, sym, _∙_}
 use Rattle.units.specs.declared.Cents.{Cents}
 use Rattle.units.specs.declared.refusal.Refusal.{Refusal}
-use Rattle.daymeters.specs.declared.figures.MeterFigures.{MeterFigures}
-use Rattle.daymeters.specs.declared.figures.MeterRow.{MeterRow}
-use Rattle.daymeters.specs.Figures.{no-figures, meter-verdict}
+use Rattle.tariff.specs.declared.charges.Charge.{Charge}
+use Rattle.tariff.specs.declared.charges.Charge.the-variants as Charge
+use Rattle.tariff.specs.Charges.{charge-verdict}
 use Rattle.overruns.specs.declared.day.Overruns.{Overruns}
 use Rattle.overruns.specs.declared.day.DayOverruns.{DayOverruns}
 use Rattle.overruns.specs.declared.day.DayOverruns.the-variants as DayOverruns
 use Rattle.overruns.specs.Day.{with-greatest, day-verdict}
-use Rattle.tariff.specs.declared.charges.Charge.{Charge}
-use Rattle.tariff.specs.declared.charges.Charge.the-variants as Charge
-use Rattle.tariff.specs.Charges.{charge-verdict}
+use Rattle.daymeters.specs.declared.figures.MeterFigures.{MeterFigures}
+use Rattle.daymeters.specs.declared.figures.MeterRow.{MeterRow}
+use Rattle.daymeters.specs.Figures.{no-figures, meter-verdict}
 
 module _ (stated : DayOverruns) {answer : DayOverruns} (is : answer ≡ stated) where
   pub refused-zeros : {x : Refusal} → answer ≡ DayOverruns.Refused x → with-greatest 0 0 0 0 ≡ day-verdict stated .figures

@@ -15,23 +15,23 @@ use Rattle.units.specs.Refusals.{within, keep}
 use Rattle.units.proofs.Checks.{accepts-both, accepts-kept, accepts-clear, accepts-within}
 use Rattle.metered.specs.Singles.{mdqs-check, side-check, sides-check}
 use Rattle.metered.specs.Hours.{bare-hours, hours-check}
-use Rattle.overruns.specs.Day.{day-check}
 use Rattle.dayformat.specs.declared.day.Day.{Day}
 use Rattle.dayformat.specs.declared.form.Column.{Column}
 use Rattle.dayformat.specs.declared.form.Tag.the-variants.{Meter}
 use Rattle.dayformat.specs.Format.{_of_, name, gigajoules, hour, backhaul, body, column-in, form}
 use Rattle.dayformat.specs.Layout.{count, row-start}
 use Rattle.dayformat.proofs.Bodies.{among}
+use Rattle.overruns.specs.Day.{day-check}
 use Rattle.dayrows.specs.declared.Test.the-variants as Test
 use Rattle.dayrows.specs.Test.{bounded, passes}
-use Rattle.dayrows.proofs.Within.{both}
 use Rattle.dayrows.specs.Private.{Sound}
+use Rattle.dayrows.proofs.Within.{both}
 use Rattle.dayvalues.specs.Row.{beyond-row, row-check}
+use Rattle.dayvalues.proofs.Sounds.{counted, sound-number}
 use Rattle.daymeters.specs.Meter.{meter-check, meter-at}
 use Rattle.daymeters.specs.Figures.{figures-of, meter-where, meter-verdict, meter-figures}
 use Rattle.daymeters.specs.Hours.{hours-from, megajoules}
 use Rattle.chargelisting.specs.MeterDay.{shipper-day}
-use Rattle.dayvalues.proofs.Sounds.{counted, sound-number}
 
 -- for callers: megajoules have their figures
 pub same-figures : (list : List ℕ) → bare-hours (megajoules list) ≡ list

@@ -12,28 +12,28 @@ use Rattle.units.specs.declared.Rate.{Rate}
 use Rattle.units.specs.declared.refusal.Check.the-variants.{Accepted}
 use Rattle.units.specs.Bound.{most-chargeable, most-rate}
 use Rattle.units.proofs.Checks.{both-accepted, kept}
-use Rattle.lines.specs.Line.{line, decimals}
-use Rattle.lines.proofs.Sizes.{line-none, line-within, figure-within}
-use Rattle.overruns.specs.Day.{ShipperDay, day-answer, day-verdict}
-use Rattle.overruns.proofs.Promises.{day-kept}
 use Rattle.tariff.specs.HalfUp.{half-up}
 use Rattle.tariff.specs.Charges.{overrun-cents, overrun-charge, charge-verdict}
+use Rattle.lines.specs.Line.{line, decimals}
+use Rattle.lines.proofs.Sizes.{line-none, line-within, figure-within}
+use Rattle.lines.proofs.Texts.{texts-most}
 use Rattle.dayformat.specs.declared.day.Day.{Day}
 use Rattle.dayformat.specs.declared.form.Tag.the-variants.{Meter}
 use Rattle.dayformat.specs.Format.{column-in}
 use Rattle.dayformat.specs.Layout.{count}
+use Rattle.overruns.specs.Day.{ShipperDay, day-answer, day-verdict}
+use Rattle.overruns.proofs.Promises.{day-kept}
+use Rattle.dayrows.specs.Private.{Sound}
+use Rattle.dayvalues.proofs.Sounds.{sound-number}
+use Rattle.daymeters.specs.Figures.{meter-figures}
 use Rattle.dayruns.proofs.Ending.{faultless}
 use Rattle.dayfile.specs.File.{tables, walked}
 use Rattle.dayfile.specs.Answer.{day-of}
-use Rattle.dayrows.specs.Private.{Sound}
 use Rattle.dayfile.proofs.FileAgain.{day-number, read-sound}
-use Rattle.daymeters.specs.Figures.{meter-figures}
 use Rattle.chargelisting.specs.MeterDay.{shipper-day}
-use Rattle.lines.proofs.Texts.{texts-most}
-use Rattle.dayvalues.proofs.Sounds.{sound-number}
+use Rattle.chargelisting.specs.ChargesText.{rate-word, head-line, charge-figures, charges-text, charges-check, charges-listing}
 use Rattle.chargelisting.proofs.OverrunsAccept.{figures-had}
 use Rattle.chargelisting.proofs.ChargesAccept.{charges-accept}
-use Rattle.chargelisting.specs.ChargesText.{rate-word, head-line, charge-figures, charges-text, charges-check, charges-listing}
 
 -- the most that an overrun can cost, in cents
 abbrev pub most-cents : ℕ

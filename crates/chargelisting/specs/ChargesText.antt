@@ -3,23 +3,23 @@ use mathlib.Core.List.{List, [], _∷_, _++_}
 use Prim.Native.Nat.{ℕ}
 use lib.Dec.{leb}
 use Rattle.columns.specs.Column.{joined}
-use Rattle.text.specs.Text.{decimal}
 use Rattle.units.specs.declared.Rate.{Rate}
 use Rattle.units.specs.declared.refusal.Check.{Check}
 use Rattle.units.specs.Bound.{most-rate}
 use Rattle.units.specs.Refusals.{_then_, keep}
-use Rattle.lines.specs.Line.{line, decimals, day-word}
-use Rattle.overruns.specs.declared.day.Overruns.{Overruns}
-use Rattle.overruns.specs.Day.{day-answer, day-verdict}
+use Rattle.text.specs.Text.{decimal}
 use Rattle.tariff.specs.Charges.{overrun-charge, charge-verdict}
+use Rattle.lines.specs.Line.{line, decimals, day-word}
 use Rattle.dayformat.specs.declared.day.Day.{Day}
 use Rattle.dayformat.specs.declared.form.Tag.the-variants.{Meter}
 use Rattle.dayformat.specs.declared.layout.Counts.{Counts}
 use Rattle.dayformat.specs.Layout.{count}
+use Rattle.overruns.specs.declared.day.Overruns.{Overruns}
+use Rattle.overruns.specs.Day.{day-answer, day-verdict}
+use Rattle.daymeters.specs.Figures.{meter-figures}
 use Rattle.dayruns.specs.Walk.{file-check}
 use Rattle.dayfile.specs.File.{tables, walked}
 use Rattle.dayfile.specs.Answer.{day-of}
-use Rattle.daymeters.specs.Figures.{meter-figures}
 use Rattle.chargelisting.specs.MeterDay.{shipper-day}
 
 -- RATE

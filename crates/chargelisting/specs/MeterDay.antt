@@ -1,8 +1,8 @@
 -- What a shipper's overruns are worked out from: a row of the meter table.
 use mathlib.Core.List.{List}
 use Prim.Native.Nat.{ℕ}
-use Rattle.overruns.specs.Day.{ShipperDay}
 use Rattle.dayformat.specs.declared.layout.Counts.{Counts}
+use Rattle.overruns.specs.Day.{ShipperDay}
 use Rattle.daymeters.specs.Figures.{meter-figures}
 use Rattle.daymeters.specs.Hours.{meter-yesterday, meter-hours}
 

@@ -6,35 +6,34 @@ use Prim.Native.Nat.{ℕ, _≤_}
 use native.Mathlib.Omega.{arith}
 use lib.ListN.{length}
 use Rattle.columns.specs.Column.{col}
+use Rattle.sharing.proofs.Levels.{level-is}
 use Rattle.units.specs.declared.refusal.Check.{Check}
 use Rattle.units.specs.declared.refusal.Check.the-variants.{Accepted}
-use Rattle.units.specs.Verdict.{Decided}
-use Rattle.units.specs.Verdict.{of-check as check-verdict}
+use Rattle.units.specs.Verdict.{Decided, of-check as check-verdict}
 use Rattle.units.proofs.Checks.{both-accepted}
 use Rattle.units.proofs.Places.{PlacedTo}
 use Rattle.units.proofs.Verdicts.{checked}
-use Rattle.sharing.proofs.Levels.{level-is}
-use Rattle.lines.specs.Answer.{listing-answer, listing-check, listing-verdict}
-use Rattle.lines.proofs.Decided.{listed-placed}
 use Rattle.rounds.specs.Answer.{round-answer, round-verdict}
 use Rattle.rounds.proofs.Decided.{round-decided, round-placed}
+use Rattle.lines.specs.Answer.{listing-answer, listing-check, listing-verdict}
+use Rattle.lines.proofs.Decided.{listed-placed}
 use Rattle.daytable.specs.Table.{Table}
 use Rattle.daytable.proofs.Accepting.{accepting}
 use Rattle.daytable.proofs.Decided.{table-placed}
+use Rattle.dayformat.specs.Layout.{numbers-in}
 use Rattle.dayshares.specs.Answer.{shares-answer, shares-verdict}
 use Rattle.dayshares.proofs.Decided.{day-decided}
-use Rattle.dayformat.specs.Layout.{numbers-in}
 use Rattle.dayruns.specs.Walk.{file-check}
 use Rattle.dayfile.specs.File.{walked}
 use Rattle.dayfile.specs.Answer.{reading-answer, reading-verdict}
 use Rattle.dayfile.proofs.Reaching.{most-file, numbers-most}
 use Rattle.dayfile.proofs.Decided.{file-numbered, file-placed, reading-placed, reading-decided}
-use Rattle.sharelisting.specs.SharesText.{shares-listing}
-use Rattle.sharelisting.proofs.Decided.{shares-decided}
-use Rattle.sharelisting.proofs.Sizes as shares-sizes
 use Rattle.chargelisting.specs.ChargesText.{charges-check, charges-listing}
 use Rattle.chargelisting.proofs.Decided.{charges-decided, charges-placed}
 use Rattle.chargelisting.proofs.Sizes as charges-sizes
+use Rattle.sharelisting.specs.SharesText.{shares-listing}
+use Rattle.sharelisting.proofs.Decided.{shares-decided}
+use Rattle.sharelisting.proofs.Sizes as shares-sizes
 use Rattle.pointlisting.specs.PointsText.{points-listing}
 use Rattle.pointlisting.proofs.Decided.{points-decided}
 use Rattle.pointlisting.proofs.Sizes as points-sizes

@@ -19,12 +19,12 @@ use Rattle.units.specs.Refusals.{_then_, keep, within}
 use Rattle.units.proofs.Checks.{both-accepted, kept}
 use Rattle.units.proofs.Places.{PlacedTo}
 use Rattle.units.proofs.Verdicts.{Refuses, refuses-none, refuses-then, refuses-keep, refuses-clear, AllNumbered}
+use Rattle.tariff.proofs.Charged.{overrun-charged}
 use Rattle.metered.specs.declared.Side.{Side}
 use Rattle.metered.specs.Hours.{bare-hours, delivered, received, hours-check}
 use Rattle.metered.specs.Singles.{mdqs-check, side-check, sides-check}
 use Rattle.overruns.specs.Day.{ShipperDay, day-overruns, day-check, day-where, day-answer}
 use Rattle.overruns.proofs.Promises.{day-kept}
-use Rattle.tariff.proofs.Charged.{overrun-charged}
 use Rattle.chargelisting.proofs.OverrunsAccept.{same-figures}
 use Rattle.chargelisting.proofs.Sizes.{most-cents, cents-most}
 use Rattle.cormcushion.specs.Packed.{packed-check}

@@ -4,12 +4,12 @@ use mathlib.Core.List.{List}
 use Prim.Native.Nat.{ℕ}
 use Rattle.units.specs.declared.refusal.Check.{Check}
 use Rattle.units.proofs.Determined.{determined}
-use Rattle.lines.proofs.Determined.{listed-determined}
 use Rattle.rounds.proofs.Determined.{round-determined}
+use Rattle.lines.proofs.Determined.{listed-determined}
 use Rattle.daytable.specs.Table.{Table}
+use Rattle.overruns.specs.Day.{ShipperDay}
 use Rattle.dayshares.proofs.Determined.{day-determined}
 use Rattle.dayfile.proofs.Determined.{reading-determined}
-use Rattle.overruns.specs.Day.{ShipperDay}
 use Rattle.cormcushion.specs.Answers.{of-listing, of-reading, of-round, of-shares, with-day, with-levels}
 use Rattle.cormcushion.specs.Lent.{ListingPacked, ReadingPacked, RoundPacked, SharesPacked}
 use Rattle.cormcushion.specs.Meter.{ChargePacked}

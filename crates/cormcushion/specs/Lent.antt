@@ -3,10 +3,10 @@ use mathlib.Core.Path.{_≡_}
 use mathlib.Core.List.{List}
 use Prim.Native.Nat.{ℕ}
 use Rattle.units.specs.declared.refusal.Check.{Check}
-use Rattle.lines.specs.declared.Listing.{Listing}
-use Rattle.lines.specs.Answer.{ListingAnswered}
 use Rattle.rounds.specs.declared.Round.{Round}
 use Rattle.rounds.specs.Answer.{RoundAnswered}
+use Rattle.lines.specs.declared.Listing.{Listing}
+use Rattle.lines.specs.Answer.{ListingAnswered}
 use Rattle.daytable.specs.Table.{Table}
 use Rattle.dayshares.specs.declared.Day.{Day}
 use Rattle.dayshares.specs.Answer.{SharesAnswered}

@@ -9,13 +9,13 @@ use Rattle.units.specs.declared.Rate.{Rate}
 use Rattle.units.specs.declared.refusal.Check.{Check}
 use Rattle.units.specs.Bound.{most-rate}
 use Rattle.units.specs.Refusals.{_then_, keep, accepted-or}
+use Rattle.tariff.specs.declared.charges.Charge.{Charge}
+use Rattle.tariff.specs.Charges.{overrun-cents, overrun-charge}
 use Rattle.metered.specs.declared.Side.{Side}
-use Rattle.daymeters.specs.Hours.{megajoules}
 use Rattle.overruns.specs.declared.day.Overruns.{Overruns}
 use Rattle.overruns.specs.declared.day.DayOverruns.{DayOverruns}
 use Rattle.overruns.specs.Day.{ShipperDay, day-overruns, day-check, day-answer}
-use Rattle.tariff.specs.declared.charges.Charge.{Charge}
-use Rattle.tariff.specs.Charges.{overrun-cents, overrun-charge}
+use Rattle.daymeters.specs.Hours.{megajoules}
 use Rattle.cormcushion.specs.Packed.{accepted, refused}
 
 -- a side's single figures: schedules of both sides, forward then backhaul, and the backhaul metered

@@ -13,8 +13,8 @@ use Rattle.dayformat.specs.declared.layout.Counts.{Counts}
 use Rattle.dayformat.specs.Format.{body, field-size, form}
 use Rattle.dayformat.specs.Layout.{row-start}
 use Rattle.dayrows.specs.Test.{bounded, rises, starved, passes}
-use Rattle.dayrows.proofs.Within.{both}
 use Rattle.dayrows.specs.Whole.{broken, with-row}
+use Rattle.dayrows.proofs.Within.{both}
 use Rattle.dayrows.proofs.Breaking.{broken-none}
 use Rattle.daybodies.specs.Body.{ready, orderly, BodyRead}
 use Rattle.daybodies.proofs.BodyReading.{KindsRead, lays, bounds}

@@ -10,8 +10,8 @@ use borrow.Author.Tests.{le-leb}
 use lib.ListN.{length, take, drop, replicate, set, length-replicate}
 use lib.Seq.{drop-drop, take-take}
 use Rattle.columns.specs.Column.{col}
-use Rattle.text.proofs.Laying.{word-none, word-next, word-all}
 use Rattle.columns.proofs.Laying.{Laying}
+use Rattle.text.proofs.Laying.{word-none, word-next, word-all}
 use Rattle.bigendian.specs.Number.{value, widest}
 use Rattle.bigendian.specs.Row.{decode}
 use Rattle.bigendian.proofs.Rows.{length-decode}

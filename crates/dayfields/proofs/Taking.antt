@@ -15,8 +15,8 @@ use Rattle.dayformat.specs.Format.{widths}
 use Rattle.dayformat.specs.Layout.{row-start}
 use Rattle.dayrows.specs.declared.Source.{Source}
 use Rattle.dayrows.specs.Test.{fault}
-use Rattle.dayfields.specs.Field.{Taken}
 use Rattle.dayrows.specs.Whole.{broken, with-row}
+use Rattle.dayfields.specs.Field.{Taken}
 
 module _ (source : Source) (counts : Counts) (file : List ℕ) (tag : Tag) (at row : ℕ) (lent : List ℕ) where
   pub taken-broken : {number : ℕ} → number ≡ broken file tag at → (number ≡ 0 → ⊥) → Taken source counts file tag at row lent lent number

@@ -7,8 +7,8 @@ use Rattle.dayformat.specs.declared.form.Tag.the-variants.{Head, Shipper, Point
 use Rattle.dayformat.specs.declared.layout.Counts.{Counts}
 use Rattle.dayformat.specs.Format.{form}
 use Rattle.dayformat.specs.Layout.{count, with-count, table-start, numbers-in}
-use Rattle.dayrows.proofs.Same.{Earlier}
 use Rattle.dayformat.specs.Private.{HasTable}
+use Rattle.dayrows.proofs.Same.{Earlier}
 use Rattle.dayfile.proofs.Rooms.{before}
 
 abbrev pub Agree : Tag → Counts → Counts → Type 0

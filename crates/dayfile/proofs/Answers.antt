@@ -16,10 +16,10 @@ use Rattle.units.specs.Refusals.{_then_, keep}
 use Rattle.units.proofs.Checks.{both-accepted, kept}
 use Rattle.dayformat.specs.declared.day.Head.{Head}
 use Rattle.dayformat.specs.Layout.{numbers-in}
-use Rattle.dayfile.specs.declared.reader.Reading.{Reading}
 use Rattle.dayruns.specs.declared.walk.Walk.{Walk}
 use Rattle.dayruns.specs.Walk.{file-check}
 use Rattle.dayruns.proofs.Ending.{faultless}
+use Rattle.dayfile.specs.declared.reader.Reading.{Reading}
 use Rattle.dayfile.specs.File.{head-of, tables}
 use Rattle.dayfile.specs.Private.{Walked}
 use Rattle.dayfile.specs.Answer.{reading-check, ReadingAnswered}

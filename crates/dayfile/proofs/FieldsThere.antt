@@ -14,8 +14,8 @@ use Rattle.bigendian.proofs.Rows.{decode-encode-past, encode-decode}
 use Rattle.dayformat.specs.declared.form.Tag.{Tag}
 use Rattle.dayformat.specs.Format.{widths, field-size, form, field}
 use Rattle.dayformat.proofs.Small.{small}
-use Rattle.dayrows.proofs.Breaking.{Whole}
 use Rattle.dayformat.proofs.Sizes.{length-field}
+use Rattle.dayrows.proofs.Breaking.{Whole}
 
 module _ (file : List ℕ) (are : AreBytes file) (tag : Tag) (at : ℕ) (W : Whole file tag at) where
   -- the bytes from a place on that are there

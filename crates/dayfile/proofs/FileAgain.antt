@@ -15,22 +15,22 @@ use Rattle.dayformat.specs.declared.form.Tag.the-variants.{Head, Shipper, Point
 use Rattle.dayformat.specs.Format.{body, column-in, widths, field-size, field}
 use Rattle.dayformat.specs.Layout.{no-rows, row-start, numbers-in}
 use Rattle.dayformat.specs.Private.{HasTable, Few}
+use Rattle.dayformat.specs.DayBytes.{head-row, fields, file-of}
 use Rattle.dayrows.specs.declared.Source.the-variants.{File}
 use Rattle.dayrows.specs.declared.Test.{Test}
 use Rattle.dayrows.specs.declared.Test.the-variants as Test
 use Rattle.dayrows.specs.Test.{passes, in-bounds}
 use Rattle.dayrows.specs.Private.{Sound}
+use Rattle.dayrows.specs.Whole.{broken}
 use Rattle.dayrows.proofs.Faults.{fault-none}
 use Rattle.dayrows.proofs.Within.{passes-bounded, within-bounds}
-use Rattle.dayrows.specs.Whole.{broken}
 use Rattle.dayrows.proofs.Breaking.{Whole, broken-none}
 use Rattle.dayruns.specs.Run.{place-of, rows-of}
+use Rattle.dayruns.proofs.Running.{field-none}
+use Rattle.dayruns.proofs.Ending.{ended-none}
 use Rattle.dayfile.specs.File.{Tables, head-fields, head-fault, head-of, headed, tabled, tables, walked}
 use Rattle.dayfile.specs.Answer.{day-of}
-use Rattle.dayruns.proofs.Running.{field-none}
 use Rattle.dayfile.proofs.Rooms.{few-none}
-use Rattle.dayruns.proofs.Ending.{ended-none}
-use Rattle.dayformat.specs.DayBytes.{head-row, fields, file-of}
 use Rattle.dayfile.proofs.Agreeing.{Agree, agree-same}
 use Rattle.dayfile.proofs.FieldsThere.{field-there}
 use Rattle.dayfile.proofs.Leading.{Leads}

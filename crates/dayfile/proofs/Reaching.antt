@@ -12,13 +12,13 @@ use Rattle.dayformat.specs.declared.form.Tag.{Tag}
 use Rattle.dayformat.specs.declared.form.Tag.the-variants.{Head, Shipper, Point, Entry, Meter}
 use Rattle.dayformat.specs.Format.{column-in, field-size, form}
 use Rattle.dayformat.specs.Layout.{numbers-in, most-numbers}
+use Rattle.dayformat.specs.Private.{Few}
 use Rattle.dayruns.specs.declared.walk.Walk.{Walk}
 use Rattle.dayruns.specs.Run.{rows-of, stops}
 use Rattle.dayruns.specs.Walk.{walk-after}
 use Rattle.dayruns.proofs.Decided.{Known, field-known, run-known, ended-has}
 use Rattle.dayfile.specs.File.{Tables, fields-from, head-fields, head-fault, headed, table-run, tabled, tables, walked}
 use Rattle.dayfile.proofs.Rooms.{few-none, few-with, few-fit}
-use Rattle.dayformat.specs.Private.{Few}
 
 -- a walk that has come no further than a byte
 pub record Reached (most : ℕ) (walk : Walk) : Type 0 where

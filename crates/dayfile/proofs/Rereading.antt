@@ -10,23 +10,23 @@ use lib.ListN.{length, take, length-append}
 use lib.Seq.{take-add}
 use Rattle.columns.specs.Column.{col, joined}
 use Rattle.columns.proofs.Firsts.{first-le}
+use Rattle.columns.proofs.Joined.{joined-same}
 use Rattle.bigendian.specs.Number.{AreBytes}
 use Rattle.dayformat.specs.declared.form.Tag.{Tag}
 use Rattle.dayformat.specs.declared.layout.Counts.{Counts}
 use Rattle.dayformat.specs.Format.{field-size, form, field}
 use Rattle.dayformat.specs.Layout.{count, table-start, row-start, numbers-in}
-use Rattle.columns.proofs.Joined.{joined-same}
+use Rattle.dayformat.specs.Private.{HasTable, Few}
+use Rattle.dayformat.specs.DayBytes.{row-from, fields}
 use Rattle.dayrows.specs.declared.Source.the-variants.{File}
 use Rattle.dayrows.specs.declared.Test.{Test}
 use Rattle.dayrows.specs.Test.{passes}
 use Rattle.dayrows.proofs.Same.{Earlier, start-same}
 use Rattle.dayruns.specs.Run.{Fields, row-of, rows-of, stops}
 use Rattle.dayruns.specs.Walk.{walk-after}
-use Rattle.dayfile.specs.File.{Tables, fields-from, table-run, tabled}
 use Rattle.dayruns.proofs.Running.{length-row, length-rows}
-use Rattle.dayformat.specs.Private.{HasTable, Few}
+use Rattle.dayfile.specs.File.{Tables, fields-from, table-run, tabled}
 use Rattle.dayfile.proofs.Rooms.{before, None-after, few-with, none-with, starts-after, grown}
-use Rattle.dayformat.specs.DayBytes.{row-from, fields}
 use Rattle.dayfile.proofs.Agreeing.{Agree, agree-before, agree-rows, agree-earlier}
 use Rattle.dayfile.proofs.Leading.{Leads, leads-append, leads-trans, row-stands}
 use Rattle.dayfile.proofs.SoundRuns.{run-bytes, run-passes}

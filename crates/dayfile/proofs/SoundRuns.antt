@@ -8,11 +8,11 @@ use lib.ListN.{length, take, drop, length-append}
 use lib.Seq.{drop-drop}
 use Rattle.columns.specs.Column.{col, joined}
 use Rattle.columns.proofs.Firsts.{first-before}
+use Rattle.columns.proofs.Joined.{joined-same, joined-parts, length-joined}
 use Rattle.bigendian.specs.Number.{AreBytes}
 use Rattle.dayformat.specs.declared.layout.Counts.{Counts}
 use Rattle.dayformat.specs.Format.{field-size, form, field}
 use Rattle.dayformat.specs.Layout.{table-start, row-start}
-use Rattle.columns.proofs.Joined.{joined-same, joined-parts, length-joined}
 use Rattle.dayrows.specs.declared.Test.{Test}
 use Rattle.dayrows.specs.Test.{passes}
 use Rattle.dayrows.proofs.Faults.{fault-none}

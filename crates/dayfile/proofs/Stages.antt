@@ -8,13 +8,13 @@ use Rattle.columns.specs.Column.{col}
 use Rattle.dayformat.specs.declared.form.Tag.{Tag}
 use Rattle.dayformat.specs.declared.form.Tag.the-variants as Tag
 use Rattle.dayformat.specs.Layout.{numbers-in, most-numbers}
+use Rattle.dayformat.specs.Private.{HasTable}
 use Rattle.dayruns.specs.declared.walk.Walk.{Walk}
 use Rattle.dayruns.specs.Walk.{ended}
 use Rattle.dayruns.proofs.Ending.{ended-none}
+use Rattle.dayruns.proofs.Fronts.{front-none}
 use Rattle.dayfile.specs.File.{Tables, headed, tabled, tables}
 use Rattle.dayfile.specs.Private.{Tabled, Walked}
-use Rattle.dayruns.proofs.Fronts.{front-none}
-use Rattle.dayformat.specs.Private.{HasTable}
 use Rattle.dayfile.proofs.Rooms.{before, few-none, few-fit}
 use Rattle.dayfile.proofs.Walking.{Held, Ready, table-answers, table-ready}
 

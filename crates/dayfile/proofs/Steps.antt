@@ -13,16 +13,16 @@ use Rattle.dayformat.specs.declared.layout.Counts.{Counts}
 use Rattle.dayformat.specs.Format.{column-in, widths}
 use Rattle.dayformat.specs.Layout.{no-rows, with-count}
 use Rattle.dayrows.specs.declared.Source.the-variants as Source
-use Rattle.dayfields.specs.Field.{Taken}
 use Rattle.dayrows.specs.Whole.{with-row}
+use Rattle.dayfields.specs.Field.{Taken}
 use Rattle.dayruns.specs.declared.run.Run.{Run}
 use Rattle.dayruns.specs.declared.walk.Walk.{Walk}
 use Rattle.dayruns.specs.Run.{place-of, rows-of, field-fault, laid, Ran}
 use Rattle.dayruns.specs.Walk.{walk-after}
-use Rattle.dayfile.specs.File.{fields-from, head-fields, head-fault, headed}
-use Rattle.dayfile.specs.Private.{Tabled}
 use Rattle.dayruns.proofs.Fronts.{front-more, front-none}
 use Rattle.dayruns.proofs.Running.{length-row, ran-sound}
+use Rattle.dayfile.specs.File.{fields-from, head-fields, head-fault, headed}
+use Rattle.dayfile.specs.Private.{Tabled}
 
 -- the head's field, its row among three zeros
 head-first : (file : List ℕ) → place-of (head-fields file) 0 ≡ 0

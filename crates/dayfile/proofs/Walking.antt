@@ -13,17 +13,17 @@ use Rattle.columns.proofs.Firsts.{first-le}
 use Rattle.dayformat.specs.declared.form.Tag.{Tag}
 use Rattle.dayformat.specs.Format.{form}
 use Rattle.dayformat.specs.Layout.{table-start, numbers-in, most-numbers}
+use Rattle.dayformat.specs.Private.{HasTable, Few}
 use Rattle.dayrows.specs.Test.{fault}
 use Rattle.dayruns.specs.declared.run.Run.{Run}
-use Rattle.dayruns.specs.Run.{Fields, rows-of, stops, run-of, laid}
 use Rattle.dayruns.specs.declared.walk.Walk.{Walk}
+use Rattle.dayruns.specs.Run.{Fields, rows-of, stops, run-of, laid}
 use Rattle.dayruns.specs.Walk.{walk-after}
-use Rattle.dayfile.specs.File.{Tables, fields-from, table-run, tabled}
-use Rattle.dayfile.specs.Private.{Tabled}
-use Rattle.dayformat.specs.Private.{HasTable, Few}
-use Rattle.dayfile.proofs.Rooms.{before, None-after, few-with, none-with, starts-after, grown, room-after}
 use Rattle.dayruns.proofs.Running.{length-rows}
 use Rattle.dayruns.proofs.Runs.{run-same, run-front}
+use Rattle.dayfile.specs.File.{Tables, fields-from, table-run, tabled}
+use Rattle.dayfile.specs.Private.{Tabled}
+use Rattle.dayfile.proofs.Rooms.{before, None-after, few-with, none-with, starts-after, grown, room-after}
 
 -- ---- the numbers of the tables read so far stand at the front of a list that has room for every day
 pub record Held (T : Tables) (lent : List ℕ) : Type 0 where

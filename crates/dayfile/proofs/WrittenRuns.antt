@@ -9,13 +9,13 @@ use native.Mathlib.Omega.{arith}
 use lib.ListN.{length, length-append}
 use Rattle.columns.specs.Column.{joined}
 use Rattle.columns.proofs.Firsts.{first-found, first-none}
+use Rattle.columns.proofs.Joined.{joined-same, joined-split, length-joined}
 use Rattle.bigendian.specs.Row.{Fit}
 use Rattle.dayformat.specs.Format.{widths, field-size, form, field}
-use Rattle.columns.proofs.Joined.{joined-same, joined-split, length-joined}
+use Rattle.dayformat.proofs.Sizes.{length-field}
 use Rattle.dayrows.specs.Test.{fault}
 use Rattle.dayrows.proofs.Breaking.{Whole, whole-none}
 use Rattle.dayruns.specs.Run.{Fields, place-of, row-of, rows-of, field-fault, begun, stops, run-rows, run-of}
-use Rattle.dayformat.proofs.Sizes.{length-field}
 use Rattle.dayfile.proofs.Above.{Above, begun-above, whole-begun}
 use Rattle.dayfile.proofs.FieldsThere.{whole-there, row-there}
 

@@ -11,9 +11,9 @@ use Rattle.units.specs.Refusals.{accepted-or, _then_, keep}
 use Rattle.units.specs.Verdict.{Verdict, accepting, refusing}
 use Rattle.dayformat.specs.declared.day.Day.{Day}
 use Rattle.dayformat.specs.Layout.{no-rows, numbers-in}
+use Rattle.dayruns.specs.Walk.{file-check}
 use Rattle.dayfile.specs.declared.reader.Reading.{Reading}
 use Rattle.dayfile.specs.declared.reader.Reading.the-variants.{Refused, Read}
-use Rattle.dayruns.specs.Walk.{file-check}
 use Rattle.dayfile.specs.File.{head-of, tables, walked}
 
 -- 7 only for a file that is otherwise sound

@@ -7,6 +7,7 @@ use native.Mathlib.Omega.{arith}
 use lib.ListN.{length, length-append}
 use Rattle.columns.specs.Column.{listed}
 use Rattle.columns.proofs.Lists.{length-listed}
+use Rattle.columns.proofs.Joined.{length-joined}
 use Rattle.bigendian.specs.Row.{size}
 use Rattle.bigendian.proofs.Numbers.{length-bytes}
 use Rattle.bigendian.proofs.Rows.{length-encode}
@@ -16,9 +17,8 @@ use Rattle.dayformat.specs.declared.form.Tag.the-variants as Tag
 use Rattle.dayformat.specs.declared.layout.Counts.{Counts}
 use Rattle.dayformat.specs.Format.{column-in, widths, field-size, form, field}
 use Rattle.dayformat.specs.Layout.{count, row-start, run-size, file-size}
-use Rattle.dayformat.proofs.Small.{small}
-use Rattle.columns.proofs.Joined.{length-joined}
 use Rattle.dayformat.specs.DayBytes.{row-from, head-row, fields, file-of}
+use Rattle.dayformat.proofs.Small.{small}
 
 pub length-field : (tag : Tag) (row : List ℕ) → length row ≡ form tag .columns → length (field tag row) ≡ field-size tag
 length-field tag row e =

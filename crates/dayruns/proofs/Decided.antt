@@ -9,7 +9,6 @@ use borrow.Author.Tests.{eqb-false}
 use lib.Dec.{T, leb, ltb, eqb, lit≤}
 use lib.ListN.{length, take, drop}
 use Rattle.columns.specs.Column.{col}
-use Rattle.bigendian.specs.Number.{value}
 use Rattle.units.specs.declared.refusal.Refusal.{Refusal}
 use Rattle.units.specs.declared.refusal.Check.{Check}
 use Rattle.units.specs.declared.refusal.Check.the-variants.{Accepted, Refused}
@@ -17,6 +16,7 @@ use Rattle.units.specs.Refusals.{at-byte}
 use Rattle.units.specs.Verdict.{of-check, Numbered, Decided}
 use Rattle.units.proofs.Checks.{no-acceptance, refusal-is}
 use Rattle.units.proofs.Verdicts.{Refuses, AllNumbered, checked}
+use Rattle.bigendian.specs.Number.{value}
 use Rattle.dayformat.specs.declared.form.Tag.{Tag}
 use Rattle.dayformat.specs.declared.layout.Counts.{Counts}
 use Rattle.dayformat.specs.Format.{field-size, form}

@@ -19,13 +19,13 @@ use Rattle.dayrows.specs.declared.Source.{Source}
 use Rattle.dayrows.specs.declared.Source.the-variants.{File}
 use Rattle.dayrows.specs.declared.Test.the-variants.{Bounds, Key, Mdq}
 use Rattle.dayrows.specs.Test.{rises, named, passes, fault}
+use Rattle.dayrows.specs.Whole.{broken, with-row}
 use Rattle.dayrows.proofs.Faults.{none-fault}
 use Rattle.dayrows.proofs.Within.{both}
-use Rattle.dayfields.specs.Field.{Taken}
-use Rattle.dayrows.specs.Whole.{broken, with-row}
-use Rattle.dayfields.proofs.Taking.{taken-whole}
 use Rattle.daybodies.specs.Body.{ready, orderly, BodyRead}
 use Rattle.daybodies.proofs.Bodies.{is-ready, kept-row}
+use Rattle.dayfields.specs.Field.{Taken}
+use Rattle.dayfields.proofs.Taking.{taken-whole}
 use Rattle.dayruns.specs.Private.{Glanced}
 
 -- ---- numbers laid twice

@@ -16,18 +16,18 @@ use Rattle.columns.specs.First.{first}
 use Rattle.columns.proofs.Firsts.{Searched, searched-none, searched-more, first-marked}
 use Rattle.columns.proofs.Firsts as firsts
 use Rattle.columns.proofs.Lists.{sets-append, length-listed}
+use Rattle.columns.proofs.Joined.{length-joined}
 use Rattle.bigendian.proofs.Rows.{length-decode}
 use Rattle.dayformat.specs.declared.form.Tag.{Tag}
 use Rattle.dayformat.specs.Format.{widths, field-size, form}
 use Rattle.dayformat.specs.Layout.{table-start}
-use Rattle.columns.proofs.Joined.{length-joined}
 use Rattle.dayrows.specs.declared.Test.the-variants as Test
 use Rattle.dayrows.specs.Test.{fault}
+use Rattle.dayrows.specs.Whole.{broken, with-row}
 use Rattle.dayrows.proofs.Faults.{fault-none}
 use Rattle.dayrows.proofs.Within.{both, passes-bounded}
-use Rattle.dayfields.specs.Field.{Taken}
-use Rattle.dayrows.specs.Whole.{broken, with-row}
 use Rattle.dayrows.proofs.Breaking.{broken-none}
+use Rattle.dayfields.specs.Field.{Taken}
 use Rattle.dayruns.specs.declared.run.Run.{Run}
 use Rattle.dayruns.specs.Run.{Fields, place-of, row-of, rows-of, field-fault, begun, stops, laid, taken-rows, run-rows, Ran}
 

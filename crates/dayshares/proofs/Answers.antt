@@ -4,10 +4,10 @@ use mathlib.Core.List.{List}
 use lib.ListN.{length}
 use Rattle.units.specs.declared.refusal.Refusal.{Refusal}
 use Rattle.units.specs.declared.refusal.Check.{Check}
-use Rattle.dayshares.specs.declared.Shares.{Shares}
-use Rattle.dayshares.specs.declared.Day.{Day}
 use Rattle.daytable.specs.Table.{Table}
 use Rattle.daytable.specs.Acceptance.{table-check}
+use Rattle.dayshares.specs.declared.Shares.{Shares}
+use Rattle.dayshares.specs.declared.Day.{Day}
 use Rattle.dayshares.specs.Answer.{SharesAnswered}
 use Rattle.dayshares.specs.Private.{DayShared}
 

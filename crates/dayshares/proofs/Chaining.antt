@@ -9,10 +9,10 @@ use lib.Seq.{sets}
 use Rattle.columns.specs.Column.{col, listed}
 use Rattle.columns.specs.Sum.{sum}
 use Rattle.columns.proofs.Lists.{col-sets, length-sets-listed, listed-same, sets-again}
-use Rattle.units.specs.Bound.{most-capacity, most-rows}
 use Rattle.sharing.specs.Round.{level, shares}
 use Rattle.sharing.specs.Private.{Small}
 use Rattle.sharing.specs.Chain.{unmet, after}
+use Rattle.units.specs.Bound.{most-capacity, most-rows}
 use Rattle.rounds.specs.declared.Given.{Given}
 use Rattle.dayshares.specs.Private.{NextReady, NextHeld}
 

@@ -10,10 +10,10 @@ use Rattle.columns.specs.Column.{col, listed}
 use Rattle.columns.proofs.Lists.{col-sets, length-sets-listed}
 use Rattle.rounds.specs.declared.Given.{Given}
 use Rattle.rounds.specs.Private.{Ready}
+use Rattle.daytable.specs.Table.{Table, rows}
 use Rattle.dayshares.specs.declared.firm.FirmGiven.{FirmGiven}
 use Rattle.dayshares.specs.declared.Shares.{Shares}
 use Rattle.dayshares.specs.Class.{full}
-use Rattle.daytable.specs.Table.{Table, rows}
 use Rattle.dayshares.specs.Given.{firm-given, auction-held, auction-offered, auction-level, auction-given, auction-total, lower-tier-held, lower-tier-offered, lower-tier-level, lower-tier-total, left}
 use Rattle.dayshares.specs.Firm.{firm}
 use Rattle.dayshares.specs.Private.{FirmHeld, Offered, DayReady, DayShared}

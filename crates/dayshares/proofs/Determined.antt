@@ -3,8 +3,8 @@ use mathlib.Core.Path.{_≡_}
 use mathlib.Core.List.{List}
 use Prim.Native.Nat.{ℕ}
 use Rattle.units.proofs.Determined.{determined}
-use Rattle.dayshares.specs.declared.Day.{Day}
 use Rattle.daytable.specs.Table.{Table}
+use Rattle.dayshares.specs.declared.Day.{Day}
 use Rattle.dayshares.specs.Answer.{SharesAnswered}
 
 pub day-determined : {T : Table} {firm auction lower-tier : List ℕ} {d₁ d₂ : Day} {f₁ f₂ a₁ a₂ l₁ l₂ : List ℕ}

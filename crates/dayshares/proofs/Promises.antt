@@ -6,13 +6,13 @@ use native.Mathlib.Nat.{le-antisymm}
 use native.Mathlib.Omega.{arith}
 use Rattle.columns.specs.Column.{col}
 use Rattle.units.specs.declared.refusal.Check.{Check}
-use Rattle.dayshares.specs.Class.{full}
 use Rattle.daytable.specs.Table.{Table, rows}
+use Rattle.daytable.specs.Acceptance.{table-check}
+use Rattle.daytable.proofs.Accepting.{Accepting, accepting}
+use Rattle.dayshares.specs.Class.{full}
 use Rattle.dayshares.specs.Given.{firm-given, auction-held, auction-offered, auction-given, auction-total, lower-tier-held, lower-tier-offered, lower-tier-given, lower-tier-total, left}
 use Rattle.dayshares.specs.Firm.{firm}
-use Rattle.daytable.specs.Acceptance.{table-check}
 use Rattle.dayshares.specs.Promise.{Promise}
-use Rattle.daytable.proofs.Accepting.{Accepting, accepting}
 use Rattle.dayshares.specs.Private.{DayReady}
 use Rattle.dayshares.proofs.Accepting.{ready}
 use Rattle.dayshares.proofs.Classes.{class-le, class-fits, class-held, class-short, full-rows, short-row}

@@ -8,11 +8,11 @@ use lib.Seq.{sets}
 use Rattle.columns.specs.Column.{col, listed}
 use Rattle.columns.specs.Sum.{sum}
 use Rattle.columns.proofs.Lists.{made-long, made-col}
-use Rattle.units.specs.Bound.{most-capacity}
 use Rattle.sharing.specs.Round.{level, shares}
 use Rattle.sharing.specs.Chain.{unmet}
 use Rattle.sharing.proofs.Levels.{level-fits}
 use Rattle.sharing.proofs.Chains.{after-le, after-sum}
+use Rattle.units.specs.Bound.{most-capacity}
 use Rattle.rounds.specs.declared.Given.{Given}
 use Rattle.rounds.specs.Private.{Ready}
 use Rattle.dayshares.specs.Firm.{Firm, firm-of, level-one, compressor-mdq, given-one, given-two, given-firm, left-two}

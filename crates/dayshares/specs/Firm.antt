@@ -4,10 +4,10 @@ use Prim.Native.Nat.{ℕ, _+_, _*_, _-_, _/_}
 use lib.ListN.{length}
 use Rattle.columns.specs.Column.{col}
 use Rattle.columns.specs.Sum.{sum}
-use Rattle.units.specs.declared.Gigajoules.{Gigajoules}
-use Rattle.daytable.specs.Table.{Table}
 use Rattle.sharing.specs.Round.{level, shares}
 use Rattle.sharing.specs.Chain.{unmet, after}
+use Rattle.units.specs.declared.Gigajoules.{Gigajoules}
+use Rattle.daytable.specs.Table.{Table}
 
 -- a row's Free Flow MDQ is three quarters of its firm MDQ rounded down (75/25 in cl. 15.3)
 abbrev pub three-quarters : ℕ → ℕ

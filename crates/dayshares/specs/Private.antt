@@ -7,17 +7,17 @@ use lib.ListN.{length}
 use lib.Seq.{sets}
 use Rattle.columns.specs.Column.{col, listed}
 use Rattle.columns.specs.Sum.{sum}
-use Rattle.units.specs.Bound.{most-capacity, most-gigajoules}
 use Rattle.sharing.specs.Round.{level, shares}
 use Rattle.sharing.specs.Chain.{unmet, after}
+use Rattle.units.specs.Bound.{most-capacity, most-gigajoules}
 use Rattle.rounds.specs.declared.Given.{Given}
 use Rattle.rounds.specs.Private.{Rows}
 use Rattle.rounds.specs.Answer.{round-given}
+use Rattle.daytable.specs.Table.{Table, rows}
 use Rattle.dayshares.specs.declared.firm.FirmGiven.{FirmGiven}
 use Rattle.dayshares.specs.declared.Shares.{Shares}
 use Rattle.dayshares.specs.Firm.{Firm, level-one, level-two, level-three, given-firm}
 use Rattle.dayshares.specs.Class.{class-level, class-given}
-use Rattle.daytable.specs.Table.{Table, rows}
 use Rattle.dayshares.specs.Given.{firm-given, auction-given, lower-tier-given}
 use Rattle.dayshares.specs.Answer.{day-shares}
 

@@ -14,12 +14,12 @@ use Rattle.dayformat.specs.declared.form.Tag.{Tag}
 use Rattle.dayformat.specs.Format.{body, column-in, form}
 use Rattle.dayformat.specs.Layout.{count, numbers-in}
 use Rattle.dayformat.specs.Acceptance.{counts-check}
-use Rattle.dayformat.proofs.Accepting.{counts-accept}
 use Rattle.dayformat.specs.Private.{HasTable}
+use Rattle.dayformat.proofs.Accepting.{counts-accept}
 use Rattle.dayrows.specs.declared.Source.the-variants.{File}
 use Rattle.dayrows.specs.declared.Test.the-variants.{Bounds}
-use Rattle.dayrows.proofs.Within.{passes-bounded, within-bounds}
 use Rattle.dayrows.specs.Private.{Sound}
+use Rattle.dayrows.proofs.Within.{passes-bounded, within-bounds}
 use Rattle.dayvalues.specs.Row.{number-at}
 
 module _ (day : Day) (numbers : List ℕ) (S : Sound day numbers) where

@@ -11,8 +11,8 @@ use Rattle.units.specs.declared.refusal.Refusal.{Refusal}
 use Rattle.units.specs.Refusals.{_then_, keep}
 use Rattle.dayformat.specs.declared.day.Day.{Day}
 use Rattle.dayformat.specs.Layout.{file-size}
-use Rattle.daywriter.specs.declared.Written.the-variants.{Refused, Bytes}
 use Rattle.dayformat.specs.DayBytes.{file-of}
+use Rattle.daywriter.specs.declared.Written.the-variants.{Refused, Bytes}
 use Rattle.daywriter.specs.Acceptance.{sound, written-check}
 use Rattle.daywriter.specs.Answer.{WrittenAnswered}
 

@@ -16,8 +16,8 @@ use Rattle.bigendian.proofs.Numbers.{length-bytes, bytes-above}
 use Rattle.dayformat.specs.declared.form.Tag.{Tag}
 use Rattle.dayformat.specs.declared.form.Column.{Column}
 use Rattle.dayformat.specs.Format.{body, column-in, widths, form}
-use Rattle.dayformat.proofs.Small.{narrow}
 use Rattle.dayformat.specs.DayBytes.{row-from}
+use Rattle.dayformat.proofs.Small.{narrow}
 
 -- ---- what a u32 loses of a number leaves no trace in four bytes or fewer
 power-both : (k w : ℕ) → 256 ^ (k + w) ≡ 256 ^ k * 256 ^ w

@@ -11,9 +11,9 @@ use Rattle.units.specs.Refusals.{accepted-or}
 use Rattle.units.specs.Verdict.{Verdict, accepting, refusing}
 use Rattle.dayformat.specs.declared.day.Day.{Day}
 use Rattle.dayformat.specs.Layout.{file-size}
+use Rattle.dayformat.specs.DayBytes.{file-of}
 use Rattle.daywriter.specs.declared.Written.{Written}
 use Rattle.daywriter.specs.declared.Written.the-variants.{Refused, Bytes}
-use Rattle.dayformat.specs.DayBytes.{file-of}
 use Rattle.daywriter.specs.Acceptance.{written-check}
 
 abbrev pub written-answer : Check → ℕ → Written

@@ -12,10 +12,10 @@ use Rattle.dayformat.specs.declared.form.Tag.{Tag}
 use Rattle.dayformat.specs.declared.form.Tag.the-variants.{Head, Shipper, Point, Entry, Meter}
 use Rattle.dayformat.specs.Layout.{run-size}
 use Rattle.dayformat.specs.Format.{field}
-use Rattle.dayfile.specs.File.{tables, walked}
-use Rattle.dayfile.specs.Answer.{day-of}
 use Rattle.dayformat.specs.DayBytes.{head-row, fields, file-of}
 use Rattle.dayformat.proofs.Sizes.{length-field, length-fields, length-file-of}
+use Rattle.dayfile.specs.File.{tables, walked}
+use Rattle.dayfile.specs.Answer.{day-of}
 use Rattle.dayfile.proofs.FileAgain.{file-again, read-sound}
 use Rattle.entrylists.specs.SideLists.{entries-start, entry-bytes, Parted}
 use Rattle.entrylists.proofs.Parts.{parted}

@@ -9,16 +9,16 @@ use lib.ListN.{length, take, drop}
 use Rattle.columns.specs.Column.{col, listed, joined}
 use Rattle.columns.specs.First.{first}
 use Rattle.columns.proofs.Firsts.{first-same}
+use Rattle.columns.proofs.Joined.{length-joined, col-joined}
 use Rattle.bigendian.specs.Number.{bytes}
 use Rattle.bigendian.specs.Row.{encode}
 use Rattle.dayformat.specs.declared.day.Day.{Day}
 use Rattle.dayformat.specs.declared.form.Tag.the-variants.{Entry}
 use Rattle.dayformat.specs.Format.{column-in, header, field-size}
 use Rattle.dayformat.specs.Layout.{count}
-use Rattle.columns.proofs.Joined.{length-joined, col-joined}
 use Rattle.dayformat.specs.DayBytes.{fields}
-use Rattle.dayrows.specs.Private.{Sound}
 use Rattle.dayformat.proofs.Sizes.{entry-size}
+use Rattle.dayrows.specs.Private.{Sound}
 use Rattle.dayvalues.specs.Row.{number-at}
 use Rattle.entrylists.specs.PointRows.{entry-field}
 use Rattle.entrylists.specs.SideLists.{first-delivery, receipt-list, delivery-list, Parted}

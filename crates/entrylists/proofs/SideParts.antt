@@ -15,13 +15,13 @@ use Rattle.dayformat.specs.declared.day.Day.{Day}
 use Rattle.dayformat.specs.declared.form.Tag.the-variants.{Entry}
 use Rattle.dayformat.specs.Format.{field-size}
 use Rattle.dayformat.specs.Layout.{count, row-start}
-use Rattle.dayrows.specs.Private.{Sound}
 use Rattle.dayformat.proofs.Sizes.{length-row-field, entry-size}
+use Rattle.dayrows.specs.Private.{Sound}
+use Rattle.dayvalues.specs.Row.{number-at}
 use Rattle.dayruns.specs.Run.{row-of}
 use Rattle.pointentries.specs.Entries.{entries, list-check, is-of, first-entry, many-entries, start-in, long-in}
 use Rattle.pointentries.proofs.EntryLists.{place-is}
 use Rattle.pointentries.proofs.EntryParts.{part-every}
-use Rattle.dayvalues.specs.Row.{number-at}
 use Rattle.entrylists.specs.PointRows.{is-entry, first-row, many-rows, entry-field, point-fields}
 use Rattle.entrylists.proofs.Segments.{whole-some, long-some, segment-alike, joined-part}
 use Rattle.entrylists.proofs.SideRuns.{rows-are, point-is}

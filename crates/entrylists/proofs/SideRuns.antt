@@ -11,29 +11,29 @@ use lib.ListN.{length}
 use Rattle.columns.specs.Column.{col, joined}
 use Rattle.columns.proofs.Firsts.{first-same, first-none}
 use Rattle.columns.proofs.Lists.{length-listed, col-listed}
+use Rattle.columns.proofs.Joined.{length-joined, col-joined}
 use Rattle.units.specs.declared.refusal.Check.the-variants.{Accepted}
 use Rattle.units.proofs.Checks.{accepts-both, accepts-kept}
 use Rattle.dayformat.specs.declared.day.Day.{Day}
 use Rattle.dayformat.specs.declared.form.Tag.the-variants.{Entry}
 use Rattle.dayformat.specs.Format.{body, column-in, field-size}
 use Rattle.dayformat.specs.Layout.{count, no-rows, row-start}
-use Rattle.columns.proofs.Joined.{length-joined, col-joined}
+use Rattle.dayformat.specs.DayBytes.{row-from}
+use Rattle.dayformat.proofs.Sizes.{length-row-field}
 use Rattle.dayrows.specs.declared.Source.the-variants.{Side}
 use Rattle.dayrows.specs.declared.Test.{Test}
 use Rattle.dayrows.specs.declared.Test.the-variants as Test
 use Rattle.dayrows.specs.Test.{in-bounds, bounded, difference, rises, starved, passes, fault}
+use Rattle.dayrows.specs.Private.{Sound}
 use Rattle.dayrows.proofs.Faults.{none-fault}
 use Rattle.dayrows.proofs.Within.{both}
+use Rattle.dayrows.proofs.SoundRows.{row-fits}
+use Rattle.dayvalues.specs.Row.{number-at}
 use Rattle.dayruns.specs.Run.{Fields, place-of, row-of, rows-of}
 use Rattle.dayruns.specs.Walk.{walk-after, ended}
-use Rattle.dayformat.specs.DayBytes.{row-from}
-use Rattle.dayrows.specs.Private.{Sound}
-use Rattle.dayformat.proofs.Sizes.{length-row-field}
 use Rattle.dayfile.proofs.WrittenRuns.{Written, row-again, rows-again, run-again}
 use Rattle.pointentries.specs.Entries.{entries, entry-run, entry-rows, unread, entry-walk, list-check, is-of}
-use Rattle.dayvalues.specs.Row.{number-at}
 use Rattle.entrylists.specs.PointRows.{entry-field}
-use Rattle.dayrows.proofs.SoundRows.{row-fits}
 use Rattle.entrylists.proofs.Sides.{entry-bounded}
 
 -- every number of an entry is within its bounds

@@ -18,8 +18,8 @@ use Rattle.dayformat.specs.Layout.{count, row-start}
 use Rattle.dayrows.specs.declared.Source.the-variants.{File}
 use Rattle.dayrows.specs.declared.Test.the-variants as Test
 use Rattle.dayrows.specs.Test.{in-bounds, difference, rises, passes}
-use Rattle.dayrows.proofs.Within.{both, passes-bounded, within-bounds}
 use Rattle.dayrows.specs.Private.{Sound}
+use Rattle.dayrows.proofs.Within.{both, passes-bounded, within-bounds}
 use Rattle.dayvalues.specs.Row.{number-at}
 
 -- where a key rises, its first number does not fall

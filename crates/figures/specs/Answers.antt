@@ -3,14 +3,14 @@ use mathlib.Core.List.{List}
 use Prim.Native.Nat.{ℕ}
 use lib.ListN.{length, replicate}
 use Rattle.units.specs.declared.refusal.Check.{Check}
+use Rattle.pointshares.specs.declared.Hour.{Hour}
+use Rattle.pointshares.specs.Answer.{hour-afterwards, hour-answer, hour-check, hour-given}
 use Rattle.daytable.specs.Table.{Table, rows}
 use Rattle.daytable.specs.Acceptance.{table-check}
 use Rattle.dayshares.specs.declared.Levels.{Levels}
 use Rattle.dayshares.specs.declared.Day.{Day}
 use Rattle.dayshares.specs.Given.{firm-given, auction-given, lower-tier-given}
 use Rattle.dayshares.specs.Answer.{day-shares, shares-answer, class-afterwards}
-use Rattle.pointshares.specs.declared.Hour.{Hour}
-use Rattle.pointshares.specs.Answer.{hour-afterwards, hour-answer, hour-check, hour-given}
 use Rattle.figures.specs.Units.{gigajoules}
 
 -- ones are lent, so that a zero written shows

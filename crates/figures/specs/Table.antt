@@ -3,21 +3,21 @@ use mathlib.Core.Path.{_≡_}
 use mathlib.Core.List.{List, [], _∷_}
 use Prim.Native.Nat.{ℕ}
 use Rattle.columns.specs.Column.{listed}
-use Rattle.daytable.specs.Table.{rows}
-use Rattle.dayshares.specs.Firm.{given-one, firm}
-use Rattle.pointshares.specs.declared.Hour.the-variants.{Shared}
-use Rattle.usegas.specs.declared.fuel.ImbalanceFuel.the-variants.{Supplied}
-use Rattle.usegas.specs.Fuel.{imbalance-fuel}
 use Rattle.excesses.specs.Hourly.{hour-excess}
 use Rattle.excesses.specs.TwelveHourly.{period-limit}
-use Rattle.overruns.specs.declared.day.DayOverruns.the-variants.{Over}
-use Rattle.overruns.specs.Day.{with-greatest, day-answer, day-verdict}
 use Rattle.tariff.specs.declared.charges.Change.{Change}
 use Rattle.tariff.specs.declared.charges.Charge.the-variants.{Charged}
 use Rattle.tariff.specs.declared.escalation.Escalation.the-variants.{Escalated}
 use Rattle.tariff.specs.Rates.{overrun-rate, variation-rate}
 use Rattle.tariff.specs.Charges.{overrun-charge, variation-charge}
 use Rattle.tariff.specs.Escalation.{escalation}
+use Rattle.pointshares.specs.declared.Hour.the-variants.{Shared}
+use Rattle.daytable.specs.Table.{rows}
+use Rattle.usegas.specs.declared.fuel.ImbalanceFuel.the-variants.{Supplied}
+use Rattle.usegas.specs.Fuel.{imbalance-fuel}
+use Rattle.overruns.specs.declared.day.DayOverruns.the-variants.{Over}
+use Rattle.overruns.specs.Day.{with-greatest, day-answer, day-verdict}
+use Rattle.dayshares.specs.Firm.{given-one, firm}
 use Rattle.figures.specs.Line.{Line, _is_, defined, said}
 use Rattle.figures.specs.Units.{gigajoules, megajoules, cents, rate, imbalance}
 use Rattle.figures.specs.Days.{first-day, second-day, third-day, steady-day}

@@ -17,6 +17,7 @@ use Rattle.lines.specs.declared.Listing.the-variants as Listing
 use Rattle.lines.specs.Answer.{ListingAnswered, listing-check}
 use Rattle.dayformat.specs.declared.day.Day.{Day}
 use Rattle.dayformat.specs.Layout.{numbers-in}
+use Rattle.dayrows.specs.Private.{Sound}
 use Rattle.dayruns.specs.Walk.{file-check}
 use Rattle.dayfile.specs.declared.reader.Reading.{Reading}
 use Rattle.dayfile.specs.declared.reader.Reading.the-variants as Reading
@@ -25,7 +26,6 @@ use Rattle.dayfile.specs.Answer.{ReadingAnswered, day-of, reading-check}
 use Rattle.dayfile.proofs.Reaching.{numbers-most}
 use Rattle.dayfile.proofs.FileAgain.{read-sound}
 use Rattle.dayfile.proofs.Told.{told, none, lent-room, taken-numbers}
-use Rattle.dayrows.specs.Private.{Sound}
 
 -- ---- a refusal
 module _ (file lent after : List ℕ) (room : length lent ≡ 6_880) (x : Refusal)

@@ -9,10 +9,10 @@ use Rattle.units.specs.declared.refusal.Check.{Check}
 use Rattle.units.specs.declared.refusal.Check.the-variants as Check
 use Rattle.units.specs.Refusals.{_then_}
 use Rattle.daytable.specs.Acceptance.{table-check}
+use Rattle.dayformat.specs.declared.day.Day.{Day}
 use Rattle.dayshares.specs.declared.Day.{Day as DayShares}
 use Rattle.dayshares.specs.declared.Day.the-variants as DayShares
 use Rattle.dayshares.specs.Answer.{SharesAnswered}
-use Rattle.dayformat.specs.declared.day.Day.{Day}
 use Rattle.numbershares.specs.DayTable.{table-of}
 use Rattle.numbershares.specs.Answer.{numbers-check, NumbersAnswered}
 use Rattle.numbershares.specs.Private.{early-check}

@@ -8,12 +8,12 @@ use Rattle.units.specs.Verdict.{Decided}
 use Rattle.units.proofs.Checks.{both-accepted}
 use Rattle.units.proofs.Verdicts.{AllNumbered, none, _and_, kept-by, decided}
 use Rattle.daytable.proofs.Decided.{check-numbered}
+use Rattle.dayformat.specs.declared.day.Day.{Day}
+use Rattle.dayformat.proofs.Decided.{counts-numbered}
 use Rattle.dayshares.specs.declared.Day.{Day as DayShares}
 use Rattle.dayshares.specs.Answer.{day-shares, shares-answer, shares-verdict}
 use Rattle.dayshares.specs.Promise.{SharesKept}
 use Rattle.dayshares.proofs.Decided.{day-kept}
-use Rattle.dayformat.specs.declared.day.Day.{Day}
-use Rattle.dayformat.proofs.Decided.{counts-numbered}
 use Rattle.numbershares.specs.DayTable.{table-of}
 use Rattle.numbershares.specs.Answer.{numbers-check, NumbersAnswered}
 

@@ -3,8 +3,8 @@ use mathlib.Core.Path.{_≡_}
 use mathlib.Core.List.{List}
 use Prim.Native.Nat.{ℕ}
 use Rattle.units.proofs.Determined.{determined}
-use Rattle.dayshares.specs.declared.Day.{Day as DayShares}
 use Rattle.dayformat.specs.declared.day.Day.{Day}
+use Rattle.dayshares.specs.declared.Day.{Day as DayShares}
 use Rattle.numbershares.specs.Answer.{NumbersAnswered}
 
 pub numbers-determined : {day : Day} {numbers firm auction lower-tier : List ℕ} {d₁ d₂ : DayShares} {f₁ f₂ a₁ a₂ l₁ l₂ : List ℕ}

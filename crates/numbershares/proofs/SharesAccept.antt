@@ -23,14 +23,14 @@ use Rattle.dayformat.specs.Layout.{count}
 use Rattle.dayrows.specs.declared.Source.the-variants.{File}
 use Rattle.dayrows.specs.declared.Test.the-variants as Test
 use Rattle.dayrows.specs.Test.{starved, passes}
-use Rattle.dayrows.proofs.Within.{passes-bounded}
 use Rattle.dayrows.specs.Private.{Sound}
+use Rattle.dayrows.proofs.Within.{passes-bounded}
 use Rattle.dayvalues.specs.Column.{column, column-check}
 use Rattle.dayvalues.specs.Row.{beyond}
+use Rattle.dayvalues.proofs.Sounds.{counted, sound-number}
 use Rattle.numbershares.specs.DayTable.{table-of}
 use Rattle.numbershares.specs.Answer.{numbers-check}
 use Rattle.numbershares.proofs.Tables.{table-long}
-use Rattle.dayvalues.proofs.Sounds.{counted, sound-number}
 
 -- one of two that are not
 neither : (a b : Bool) → not (cond a true b) ≡ true → (a ≡ false) × (b ≡ false)

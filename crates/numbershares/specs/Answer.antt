@@ -9,12 +9,12 @@ use Rattle.units.specs.declared.refusal.Check.{Check}
 use Rattle.units.specs.Refusals.{_then_, keep}
 use Rattle.daytable.specs.Table.{rows}
 use Rattle.daytable.specs.Acceptance.{table-check}
-use Rattle.dayshares.specs.declared.Day.{Day as DayShares}
-use Rattle.dayshares.specs.Given.{firm-given, auction-given, lower-tier-given}
-use Rattle.dayshares.specs.Answer.{day-shares, shares-answer, class-afterwards}
 use Rattle.dayformat.specs.declared.day.Day.{Day}
 use Rattle.dayformat.specs.Layout.{numbers-in}
 use Rattle.dayformat.specs.Acceptance.{counts-check}
+use Rattle.dayshares.specs.declared.Day.{Day as DayShares}
+use Rattle.dayshares.specs.Given.{firm-given, auction-given, lower-tier-given}
+use Rattle.dayshares.specs.Answer.{day-shares, shares-answer, class-afterwards}
 use Rattle.numbershares.specs.DayTable.{table-of}
 
 -- refused: 9 not as many numbers as the counts say; 3 a count; then what the table that they make is refused for

@@ -9,9 +9,9 @@ use Rattle.columns.specs.Sum.{sum}
 use Rattle.units.specs.declared.Megajoules.{Megajoules}
 use Rattle.units.specs.Unit.{thousandfold}
 use Rattle.units.specs.Bound.{most-hour, most-backhaul}
+use Rattle.excesses.proofs.Excesses.{gas-most}
 use Rattle.metered.specs.declared.Side.{Side}
 use Rattle.metered.specs.Private.{Within}
-use Rattle.excesses.proofs.Excesses.{gas-most}
 use Rattle.overruns.specs.Daily.{daily, most-daily}
 
 -- the gas of the hours

@@ -7,11 +7,11 @@ use Rattle.units.specs.declared.Gigajoules.{Gigajoules}
 use Rattle.units.specs.declared.Megajoules.{Megajoules}
 use Rattle.units.specs.Verdict.{Decided}
 use Rattle.units.proofs.Verdicts.{AllNumbered, none, _and_, kept-by, cleared-by, decided}
+use Rattle.excesses.specs.Hourly.{hourly}
+use Rattle.excesses.specs.TwelveHourly.{twelve-hourly}
 use Rattle.metered.specs.declared.Side.{Side}
 use Rattle.metered.specs.Hours.{delivered, received}
 use Rattle.metered.proofs.Decided.{rows-numbered, mdqs-numbered, sides-numbered}
-use Rattle.excesses.specs.Hourly.{hourly}
-use Rattle.excesses.specs.TwelveHourly.{twelve-hourly}
 use Rattle.overruns.specs.declared.Overrun.{Overrun}
 use Rattle.overruns.specs.declared.daily.DailyOverruns.{DailyOverruns}
 use Rattle.overruns.specs.declared.day.DayOverruns.{DayOverruns}

@@ -8,9 +8,9 @@ use lib.Seq.{getD-take, getD-drop}
 use Rattle.columns.specs.Column.{col}
 use Rattle.columns.specs.Sum.{sum}
 use Rattle.columns.proofs.Sums.{sum-cong}
+use Rattle.excesses.specs.TwelveHourly.{period-gas}
 use Rattle.metered.specs.Private.{Within}
 use Rattle.metered.proofs.Accepting.{every-hour}
-use Rattle.excesses.specs.TwelveHourly.{period-gas}
 
 -- the part of the 35 hours that ends with hour h
 module _ (hours : List ℕ) (h : ℕ) where

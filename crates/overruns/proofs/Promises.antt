@@ -8,11 +8,11 @@ use Rattle.units.specs.declared.Gigajoules.{Gigajoules}
 use Rattle.units.specs.declared.Megajoules.{Megajoules}
 use Rattle.units.specs.declared.refusal.Check.{Check}
 use Rattle.units.proofs.Verdicts.{every-figure}
-use Rattle.metered.specs.declared.Side.{Side}
-use Rattle.metered.specs.Hours.{bare-hours, delivered, received}
 use Rattle.excesses.specs.Hourly.{most-hourly}
 use Rattle.excesses.specs.TwelveHourly.{most-twelve-hourly}
 use Rattle.excesses.proofs.Greatest.{hourly-most, twelve-hourly-most, greatest-of}
+use Rattle.metered.specs.declared.Side.{Side}
+use Rattle.metered.specs.Hours.{bare-hours, delivered, received}
 use Rattle.overruns.specs.declared.Overrun.{Overrun}
 use Rattle.overruns.specs.declared.daily.DailyOverruns.{DailyOverruns}
 use Rattle.overruns.specs.declared.day.DayOverruns.{DayOverruns}

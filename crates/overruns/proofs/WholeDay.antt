@@ -4,9 +4,9 @@ use mathlib.Core.List.{List, _++_}
 use Prim.Native.Nat.{ℕ}
 use Rattle.units.specs.declared.refusal.Refusal.{Refusal}
 use Rattle.units.specs.declared.refusal.Check.{Check}
+use Rattle.excesses.specs.Greatest.{greatest}
 use Rattle.metered.specs.Hours.{bare-hours, delivered}
 use Rattle.metered.specs.Private.{Within, Rows-within, Backhaul-within}
-use Rattle.excesses.specs.Greatest.{greatest}
 use Rattle.overruns.specs.declared.day.Overruns.{Overruns}
 use Rattle.overruns.specs.declared.day.DayOverruns.{DayOverruns}
 use Rattle.overruns.specs.Day.{ShipperDay, with-greatest, all-compared, day-check, day-answer}

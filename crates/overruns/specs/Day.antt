@@ -8,12 +8,12 @@ use Rattle.units.specs.declared.refusal.Check.{Check}
 use Rattle.units.specs.Bound.{most-hour}
 use Rattle.units.specs.Refusals.{_then_, within}
 use Rattle.units.specs.Verdict.{Verdict, accepting, refusing}
-use Rattle.metered.specs.declared.Side.{Side}
-use Rattle.metered.specs.Singles.{mdqs-check, sides-check}
-use Rattle.metered.specs.Hours.{bare-hours, delivered, received, hours-check}
 use Rattle.excesses.specs.Hourly.{hourly}
 use Rattle.excesses.specs.TwelveHourly.{twelve-hourly}
 use Rattle.excesses.specs.Greatest.{greatest}
+use Rattle.metered.specs.declared.Side.{Side}
+use Rattle.metered.specs.Singles.{mdqs-check, sides-check}
+use Rattle.metered.specs.Hours.{bare-hours, delivered, received, hours-check}
 use Rattle.overruns.specs.declared.day.Overruns.{Overruns}
 use Rattle.overruns.specs.declared.day.DayOverruns.{DayOverruns}
 use Rattle.overruns.specs.Daily.{daily}

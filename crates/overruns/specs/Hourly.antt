@@ -7,8 +7,8 @@ use Rattle.units.specs.declared.Megajoules.{Megajoules}
 use Rattle.units.specs.declared.refusal.Check.{Check}
 use Rattle.units.specs.Bound.{most-gigajoules}
 use Rattle.units.specs.Refusals.{_then_, keep}
-use Rattle.metered.specs.Hours.{delivered, received, hours-check}
 use Rattle.excesses.specs.Hourly.{hourly}
+use Rattle.metered.specs.Hours.{delivered, received, hours-check}
 use Rattle.overruns.specs.declared.Overrun.{Overrun}
 use Rattle.overruns.specs.Answers.{overrun-answer}
 

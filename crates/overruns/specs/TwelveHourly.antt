@@ -8,8 +8,8 @@ use Rattle.units.specs.declared.Gigajoules.{Gigajoules}
 use Rattle.units.specs.declared.refusal.Check.{Check}
 use Rattle.units.specs.Bound.{most-hour}
 use Rattle.units.specs.Refusals.{_then_, keep, within}
-use Rattle.metered.specs.Singles.{mdqs-check}
 use Rattle.excesses.specs.TwelveHourly.{twelve-hourly}
+use Rattle.metered.specs.Singles.{mdqs-check}
 use Rattle.overruns.specs.declared.Overrun.{Overrun}
 use Rattle.overruns.specs.Answers.{overrun-answer}
 

@@ -10,17 +10,17 @@ use borrow.Author.Tests.{ltb-true, eqb-true, not-false}
 use lib.Dec.{ltb, eqb}
 use Rattle.columns.specs.Column.{col}
 use Rattle.columns.proofs.Firsts.{first-before}
+use Rattle.columns.proofs.Joined.{col-joined}
 use Rattle.dayformat.specs.declared.form.Tag.the-variants as Tag
 use Rattle.dayformat.specs.Layout.{no-rows, row-start}
-use Rattle.columns.proofs.Joined.{col-joined}
 use Rattle.dayrows.specs.declared.Source.the-variants as Source
 use Rattle.dayrows.specs.declared.Test.the-variants as Test
 use Rattle.dayrows.specs.Test.{bounded, difference, rises, passes, fault}
 use Rattle.dayrows.proofs.Faults.{fault-none}
 use Rattle.dayrows.proofs.Within.{both}
 use Rattle.dayruns.specs.Run.{Fields, row-of, rows-of}
-use Rattle.pointentries.specs.Entries.{entries, entry-rows}
 use Rattle.dayruns.proofs.Running.{length-row, field-none}
+use Rattle.pointentries.specs.Entries.{entries, entry-rows}
 use Rattle.pointentries.proofs.EntryLists.{rows-sound}
 
 -- where two keys agree in their first number, the second does not fall

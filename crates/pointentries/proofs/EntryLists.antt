@@ -12,19 +12,18 @@ use Rattle.units.specs.declared.refusal.Check.the-variants as Check
 use Rattle.units.specs.Refusals.{_then_, keep}
 use Rattle.units.proofs.Checks.{both-accepted}
 use Rattle.dayformat.specs.declared.form.Tag.the-variants as Tag
+use Rattle.dayformat.proofs.Sizes.{entry-size}
 use Rattle.dayrows.proofs.Breaking.{broken-none}
 use Rattle.dayruns.specs.declared.run.Run.{Run}
 use Rattle.dayruns.specs.declared.walk.Walk.{Walk}
 use Rattle.dayruns.specs.Run.{Fields, place-of, rows-of, field-fault, stops, run-of, laid, Ran}
-use Rattle.dayruns.specs.Walk.{walk-after, ended}
-use Rattle.dayruns.specs.Walk.{file-check}
-use Rattle.pointentries.specs.Entries.{entries, entry-run, entry-rows, unread, entry-walk, list-check}
-use Rattle.pointentries.specs.Private.{EntriesWalked, ListChecked, most-entry-numbers}
+use Rattle.dayruns.specs.Walk.{walk-after, ended, file-check}
 use Rattle.dayruns.proofs.Running.{field-none, goes-sound, ran-sound}
 use Rattle.dayruns.proofs.Runs.{run-same, run-front}
 use Rattle.dayruns.proofs.Fronts.{front-none}
 use Rattle.dayruns.proofs.Ending.{ended-none, faultless}
-use Rattle.dayformat.proofs.Sizes.{entry-size}
+use Rattle.pointentries.specs.Entries.{entries, entry-run, entry-rows, unread, entry-walk, list-check}
+use Rattle.pointentries.specs.Private.{EntriesWalked, ListChecked, most-entry-numbers}
 
 module _ (list : List ℕ) (side : ℕ) where
   abbrev F : Fields

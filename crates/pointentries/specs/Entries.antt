@@ -18,8 +18,7 @@ use Rattle.dayrows.specs.declared.Source.the-variants as Source
 use Rattle.dayruns.specs.declared.run.Run.{Run}
 use Rattle.dayruns.specs.declared.walk.Walk.{Walk}
 use Rattle.dayruns.specs.Run.{Fields, row-of, rows-of, run-of}
-use Rattle.dayruns.specs.Walk.{walk-after, ended}
-use Rattle.dayruns.specs.Walk.{file-check}
+use Rattle.dayruns.specs.Walk.{walk-after, ended, file-check}
 
 -- a run of tag 4 fields of one side; names aren't looked up
 abbrev pub entries : List ℕ → ℕ → Fields

@@ -9,17 +9,17 @@ use lib.ListN.{length, take, replicate, length-replicate}
 use lib.Seq.{sets}
 use Rattle.columns.specs.Column.{col, listed}
 use Rattle.columns.proofs.Lists.{length-listed, col-sets, made-part, made-long}
+use Rattle.columns.proofs.Joined.{joined-same}
 use Rattle.units.specs.declared.Megajoules.{Megajoules}
 use Rattle.units.specs.declared.refusal.Refusal.{Refusal}
 use Rattle.units.specs.declared.refusal.Check.{Check}
 use Rattle.units.specs.declared.refusal.Check.the-variants as Check
 use Rattle.text.specs.Text.{Laid}
-use Rattle.lines.specs.Line.{line, decimals, refused}
-use Rattle.columns.proofs.Joined.{joined-same}
 use Rattle.pointshares.specs.declared.Hour.{Hour}
 use Rattle.pointshares.specs.declared.Hour.the-variants as Hour
 use Rattle.pointshares.specs.Share.{hour-shares}
 use Rattle.pointshares.specs.Answer.{hour-check, hour-answer, HourAnswered}
+use Rattle.lines.specs.Line.{line, decimals, refused}
 use Rattle.pointhours.specs.HourText.{share-lines, hour-lines}
 use Rattle.pointhours.specs.Parts.{most-entries}
 use Rattle.pointhours.specs.Private.{with-zeros}

@@ -11,13 +11,13 @@ use Rattle.units.specs.declared.refusal.Refusal.{Refusal}
 use Rattle.units.specs.declared.refusal.Check.{Check}
 use Rattle.units.specs.declared.refusal.Check.the-variants.{Accepted, Refused}
 use Rattle.units.specs.Bound.{most-hour}
-use Rattle.lines.specs.Line.{line, decimals, refused}
-use Rattle.lines.proofs.Sizes.{line-none, line-within, figure-within}
 use Rattle.pointshares.specs.Share.{hour-shares}
 use Rattle.pointshares.specs.Answer.{hour-check}
 use Rattle.pointshares.proofs.Accepting.{accepting}
 use Rattle.pointshares.proofs.Cases.{share-most}
 use Rattle.pointshares.proofs.Decided.{hour-numbered, hour-placed}
+use Rattle.lines.specs.Line.{line, decimals, refused}
+use Rattle.lines.proofs.Sizes.{line-none, line-within, figure-within}
 use Rattle.lines.proofs.Texts.{texts-most}
 use Rattle.pointhours.specs.HourText.{share-lines, hour-lines}
 

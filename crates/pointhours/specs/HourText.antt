@@ -7,9 +7,9 @@ use Rattle.columns.specs.Column.{listed, joined}
 use Rattle.columns.specs.First.{first}
 use Rattle.units.specs.declared.refusal.Check.{Check}
 use Rattle.units.specs.declared.refusal.Check.the-variants as Check
-use Rattle.lines.specs.Line.{line, decimals, refused}
 use Rattle.pointshares.specs.Share.{hour-shares}
 use Rattle.pointshares.specs.Answer.{hour-check}
+use Rattle.lines.specs.Line.{line, decimals, refused}
 use Rattle.dayformat.specs.declared.form.Tag.the-variants.{Shipper}
 use Rattle.dayformat.specs.declared.layout.Counts.{Counts}
 use Rattle.dayformat.specs.Layout.{count}

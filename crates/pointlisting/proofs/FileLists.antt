@@ -10,10 +10,10 @@ use Rattle.bigendian.specs.Number.{AreBytes}
 use Rattle.dayformat.specs.declared.day.Day.{Day}
 use Rattle.dayformat.specs.declared.form.Tag.the-variants.{Entry}
 use Rattle.dayformat.specs.Layout.{numbers-in, run-size}
+use Rattle.dayformat.specs.DayBytes.{fields}
 use Rattle.dayfile.specs.declared.reader.Reading.the-variants as Reading
 use Rattle.dayfile.specs.File.{walked}
 use Rattle.dayfile.specs.Answer.{ReadingAnswered, Reads}
-use Rattle.dayformat.specs.DayBytes.{fields}
 use Rattle.dayfile.proofs.FileAgain.{read-sound}
 use Rattle.dayfile.proofs.Told.{taken-numbers, reads-day}
 use Rattle.entrylists.specs.SideLists.{entries-start, entry-bytes, first-delivery, receipt-list, delivery-list}

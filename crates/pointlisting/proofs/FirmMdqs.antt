@@ -18,8 +18,8 @@ use Rattle.dayformat.specs.Layout.{count, row-start}
 use Rattle.dayrows.specs.declared.Source.the-variants.{File}
 use Rattle.dayrows.specs.declared.Test.the-variants as Test
 use Rattle.dayrows.specs.Test.{difference, rises, lists, named, passes}
-use Rattle.dayrows.proofs.Within.{both, passes-bounded, within-bounds}
 use Rattle.dayrows.specs.Private.{Sound}
+use Rattle.dayrows.proofs.Within.{both, passes-bounded, within-bounds}
 use Rattle.dayvalues.specs.Row.{number-at}
 use Rattle.dayvalues.specs.Shippers.{shipper-of}
 use Rattle.pointhours.specs.HourText.{shipper-row, firm-mdq}

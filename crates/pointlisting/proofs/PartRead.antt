@@ -9,28 +9,28 @@ use lib.Seq.{drop-drop}
 use Rattle.columns.specs.Column.{col, listed}
 use Rattle.columns.proofs.Firsts.{first-le}
 use Rattle.columns.proofs.Lists.{listed-same}
-use Rattle.bigendian.specs.Number.{value}
-use Rattle.bigendian.specs.Row.{decode}
+use Rattle.columns.proofs.Joined.{joined-same}
 use Rattle.units.specs.declared.refusal.Check.{Check}
 use Rattle.units.specs.declared.refusal.Check.the-variants as Check
+use Rattle.bigendian.specs.Number.{value}
+use Rattle.bigendian.specs.Row.{decode}
+use Rattle.pointshares.specs.Share.{hour-shares}
+use Rattle.pointshares.specs.Answer.{hour-check}
 use Rattle.lines.specs.Line.{line, decimals}
 use Rattle.dayformat.specs.declared.day.Day.{Day}
 use Rattle.dayformat.specs.declared.form.Tag.the-variants.{Entry}
 use Rattle.dayformat.specs.Format.{column-in}
 use Rattle.dayformat.specs.Layout.{count}
-use Rattle.columns.proofs.Joined.{joined-same}
-use Rattle.dayruns.specs.Run.{place-of, row-of}
+use Rattle.dayformat.proofs.Sizes.{entry-size}
 use Rattle.dayrows.specs.Private.{Sound}
-use Rattle.pointshares.specs.Share.{hour-shares}
-use Rattle.pointshares.specs.Answer.{hour-check}
+use Rattle.pointhours.specs.HourText.{share-lines, hour-lines, firm-mdq}
+use Rattle.pointhours.specs.Parts.{most-number, entries-in, shipper-in, entitlement-in, mdq-in, part-lines}
+use Rattle.pointhours.proofs.EntryPlaces.{shipper-here, entitlement-here}
+use Rattle.dayruns.specs.Run.{place-of, row-of}
 use Rattle.pointentries.specs.Entries.{entries}
 use Rattle.pointentries.proofs.EntryLists.{place-is}
 use Rattle.entrylists.specs.PointRows.{is-entry, first-row, many-rows, entry-number, point-fields}
 use Rattle.entrylists.proofs.SideRuns.{number-again, list-long}
-use Rattle.pointhours.specs.HourText.{share-lines, hour-lines, firm-mdq}
-use Rattle.pointhours.proofs.EntryPlaces.{shipper-here, entitlement-here}
-use Rattle.dayformat.proofs.Sizes.{entry-size}
-use Rattle.pointhours.specs.Parts.{most-number, entries-in, shipper-in, entitlement-in, mdq-in, part-lines}
 use Rattle.pointlisting.specs.PointsText.{entry-lines}
 use Rattle.pointlisting.proofs.FirmMdqs.{firm-bounded}
 

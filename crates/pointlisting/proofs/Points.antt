@@ -16,14 +16,14 @@ use Rattle.dayformat.specs.Layout.{count}
 use Rattle.dayrows.specs.declared.Source.the-variants.{File}
 use Rattle.dayrows.specs.declared.Test.the-variants as Test
 use Rattle.dayrows.specs.Test.{in-bounds}
-use Rattle.dayrows.proofs.Within.{passes-bounded, within-bounds}
 use Rattle.dayrows.specs.Private.{Sound}
-use Rattle.pointentries.specs.Entries.{asked, part-start, part-long, Part}
+use Rattle.dayrows.proofs.Within.{passes-bounded, within-bounds}
 use Rattle.dayvalues.specs.Row.{number-at}
+use Rattle.pointhours.specs.Parts.{part-lines}
+use Rattle.pointentries.specs.Entries.{asked, part-start, part-long, Part}
 use Rattle.entrylists.specs.PointRows.{point-fields}
 use Rattle.entrylists.proofs.Parts.{parted}
 use Rattle.pointlisting.specs.PointsText.{point-line, entry-lines, point-lines}
-use Rattle.pointhours.specs.Parts.{part-lines}
 use Rattle.pointlisting.specs.Private.{Readable}
 use Rattle.pointlisting.proofs.PartRead.{lines-are}
 

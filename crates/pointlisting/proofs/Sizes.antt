@@ -11,21 +11,21 @@ use Rattle.columns.proofs.Firsts.{first-le}
 use Rattle.units.specs.declared.refusal.Check.the-variants.{Accepted}
 use Rattle.units.specs.Bound.{most-hour}
 use Rattle.lines.proofs.Sizes.{line-none, line-within, figure-within}
+use Rattle.lines.proofs.Texts.{texts-most}
 use Rattle.dayformat.specs.declared.day.Day.{Day}
 use Rattle.dayformat.specs.declared.form.Tag.the-variants.{Point, Entry}
 use Rattle.dayformat.specs.Format.{column-in}
 use Rattle.dayformat.specs.Layout.{count}
+use Rattle.dayrows.specs.Private.{Sound}
+use Rattle.dayvalues.specs.Row.{number-at}
+use Rattle.dayvalues.proofs.Sounds.{sound-number}
+use Rattle.pointhours.proofs.Sizes.{hour-most}
 use Rattle.dayruns.specs.Walk.{file-check}
 use Rattle.dayruns.proofs.Ending.{faultless}
 use Rattle.dayfile.specs.File.{tables, walked}
 use Rattle.dayfile.specs.Answer.{day-of}
-use Rattle.dayrows.specs.Private.{Sound}
 use Rattle.dayfile.proofs.FileAgain.{day-number, read-sound}
-use Rattle.dayvalues.specs.Row.{number-at}
 use Rattle.entrylists.specs.PointRows.{is-entry, first-row, many-rows, entry-number}
-use Rattle.lines.proofs.Texts.{texts-most}
-use Rattle.dayvalues.proofs.Sounds.{sound-number}
-use Rattle.pointhours.proofs.Sizes.{hour-most}
 use Rattle.pointlisting.specs.PointsText.{point-word, day-line, point-line, entry-lines, point-lines, points-text, points-listing}
 
 -- ten digits for the day

@@ -8,10 +8,10 @@ use Rattle.dayformat.specs.declared.day.Day.{Day}
 use Rattle.dayformat.specs.declared.form.Tag.the-variants.{Point}
 use Rattle.dayformat.specs.declared.layout.Counts.{Counts}
 use Rattle.dayformat.specs.Layout.{count}
-use Rattle.dayfile.specs.File.{tables}
-use Rattle.dayfile.specs.Answer.{day-of}
 use Rattle.dayvalues.specs.Row.{number-at}
 use Rattle.pointhours.specs.HourText.{hour-lines, firm-mdq}
+use Rattle.dayfile.specs.File.{tables}
+use Rattle.dayfile.specs.Answer.{day-of}
 use Rattle.entrylists.specs.PointRows.{many-rows, entry-number}
 
 -- POINT

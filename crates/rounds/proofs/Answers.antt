@@ -4,9 +4,9 @@ use mathlib.Core.List.{List}
 use Prim.Native.Nat.{ℕ}
 use lib.ListN.{length}
 use Rattle.columns.specs.Column.{col}
+use Rattle.sharing.specs.Round.{level}
 use Rattle.units.specs.declared.refusal.Refusal.{Refusal}
 use Rattle.units.specs.declared.refusal.Check.{Check}
-use Rattle.sharing.specs.Round.{level}
 use Rattle.rounds.specs.declared.Round.{Round}
 use Rattle.rounds.specs.Private.{Filled}
 use Rattle.rounds.specs.Answer.{round-check, RoundAnswered}

@@ -7,11 +7,11 @@ use lib.ListN.{length}
 use lib.Seq.{sets}
 use Rattle.columns.specs.Column.{col, listed}
 use Rattle.columns.specs.Sum.{sum}
+use Rattle.sharing.specs.Round.{level, shares}
 use Rattle.units.specs.declared.refusal.Check.{Check}
 use Rattle.units.specs.Bound.{most-capacity, most-gigajoules, most-rows}
 use Rattle.units.specs.Refusals.{_then_, keep, within, accepted-or}
 use Rattle.units.specs.Verdict.{Verdict, accepting, refusing}
-use Rattle.sharing.specs.Round.{level, shares}
 use Rattle.rounds.specs.declared.Given.{Given}
 use Rattle.rounds.specs.declared.Round.{Round}
 

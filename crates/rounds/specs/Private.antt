@@ -5,9 +5,9 @@ use Prim.Native.Nat.{ℕ, _≤_}
 use lib.ListN.{length}
 use lib.Seq.{sets}
 use Rattle.columns.specs.Column.{col, listed}
-use Rattle.units.specs.Bound.{most-capacity, most-rows}
 use Rattle.sharing.specs.Round.{share, total}
 use Rattle.sharing.specs.Private.{Small}
+use Rattle.units.specs.Bound.{most-capacity, most-rows}
 
 -- as many needs as weights, few and small enough
 pub record Rows (ws qs : List ℕ) : Type 0 where

@@ -8,24 +8,24 @@ use borrow.Author.Tests.{eq-eqb}
 use lib.ListN.{length, length-append}
 use Rattle.columns.specs.Column.{col, joined}
 use Rattle.columns.proofs.Lists.{length-listed}
+use Rattle.columns.proofs.Joined.{length-joined}
 use Rattle.dayformat.specs.declared.day.Day.{Day}
 use Rattle.dayformat.specs.declared.form.Tag.{Tag}
 use Rattle.dayformat.specs.Format.{form}
 use Rattle.dayformat.specs.Layout.{count, table-start, row-start, numbers-in}
 use Rattle.dayformat.specs.Private.{HasTable}
-use Rattle.columns.proofs.Joined.{length-joined}
+use Rattle.dayformat.specs.DayBytes.{row-from, fields}
+use Rattle.dayformat.proofs.Sizes.{length-fields}
 use Rattle.dayrows.specs.declared.Source.the-variants.{File}
 use Rattle.dayrows.specs.Test.{passes, fault}
+use Rattle.dayrows.specs.Private.{Sound}
 use Rattle.dayrows.proofs.Faults.{none-fault}
 use Rattle.dayrows.proofs.Same.{Earlier, start-same, passes-same}
+use Rattle.dayrows.proofs.SoundRows.{row-fits}
 use Rattle.dayruns.specs.Run.{Fields, place-of, rows-of}
 use Rattle.dayruns.specs.Walk.{walk-after}
 use Rattle.dayfile.specs.File.{Tables, fields-from, table-run, tabled}
 use Rattle.dayfile.proofs.Rooms.{before, None-after, none-with, starts-after, grown}
-use Rattle.dayformat.specs.DayBytes.{row-from, fields}
-use Rattle.dayrows.specs.Private.{Sound}
-use Rattle.dayrows.proofs.SoundRows.{row-fits}
-use Rattle.dayformat.proofs.Sizes.{length-fields}
 use Rattle.dayfile.proofs.Above.{Above}
 use Rattle.dayfile.proofs.Agreeing.{Agree, agree-earlier, agree-with, table-inside}
 use Rattle.dayfile.proofs.Leading.{Leads, leads-more}

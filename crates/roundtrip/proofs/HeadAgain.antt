@@ -17,16 +17,16 @@ use Rattle.dayformat.specs.declared.day.Head.{Head}
 use Rattle.dayformat.specs.declared.form.Tag.the-variants as Tag
 use Rattle.dayformat.specs.Format.{body, column-in, widths, field-size, field}
 use Rattle.dayformat.specs.Layout.{no-rows, row-start}
+use Rattle.dayformat.specs.DayBytes.{head-row}
 use Rattle.dayrows.specs.declared.Source.the-variants.{File}
 use Rattle.dayrows.specs.declared.Test.{Test}
 use Rattle.dayrows.specs.declared.Test.the-variants.{Bounds, Key, Mdq}
 use Rattle.dayrows.specs.Test.{in-bounds, bounded, rises, named, starved, passes, fault}
-use Rattle.dayrows.proofs.Faults.{none-fault}
 use Rattle.dayrows.specs.Whole.{broken}
+use Rattle.dayrows.proofs.Faults.{none-fault}
 use Rattle.dayrows.proofs.Breaking.{whole-none}
 use Rattle.dayruns.specs.Run.{place-of, rows-of, field-fault}
 use Rattle.dayfile.specs.File.{head-fields, head-fault, head-of, headed}
-use Rattle.dayformat.specs.DayBytes.{head-row}
 use Rattle.dayfile.proofs.FieldsThere.{whole-there, row-there}
 use Rattle.dayfile.proofs.FileAgain.{head-numbers}
 

@@ -12,15 +12,15 @@ use Rattle.units.specs.Refusals.{keep}
 use Rattle.units.proofs.Checks.{both-accepted, kept, accepts-both, accepts-kept}
 use Rattle.dayformat.specs.declared.day.Day.{Day}
 use Rattle.dayformat.specs.Layout.{numbers-in, file-size}
+use Rattle.dayformat.specs.DayBytes.{file-of}
+use Rattle.dayformat.proofs.Sizes.{length-file-of}
+use Rattle.daywriter.specs.Acceptance.{sound, written-check}
+use Rattle.daywriter.proofs.Accepting.{accepting}
+use Rattle.daywriter.proofs.Decided.{written-decided}
 use Rattle.dayfile.specs.File.{tables, walked}
 use Rattle.dayfile.specs.Answer.{reading-check, Reads}
 use Rattle.dayfile.proofs.Decided.{reading-decided}
 use Rattle.dayfile.proofs.Told.{take-front, reads-day, taken-numbers}
-use Rattle.dayformat.specs.DayBytes.{file-of}
-use Rattle.daywriter.specs.Acceptance.{sound, written-check}
-use Rattle.daywriter.proofs.Accepting.{accepting}
-use Rattle.daywriter.proofs.Decided.{written-decided}
-use Rattle.dayformat.proofs.Sizes.{length-file-of}
 use Rattle.roundtrip.specs.RoundTrip.{File-again, Day-again}
 use Rattle.roundtrip.proofs.RoundTrips.{round-trips}
 

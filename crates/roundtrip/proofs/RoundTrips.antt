@@ -12,20 +12,20 @@ use Rattle.dayformat.specs.declared.form.Tag.{Tag}
 use Rattle.dayformat.specs.declared.form.Tag.the-variants.{Head, Shipper, Point, Entry, Meter}
 use Rattle.dayformat.specs.Layout.{count, numbers-in}
 use Rattle.dayformat.specs.Format.{field}
+use Rattle.dayformat.specs.DayBytes.{head-row, fields, file-of}
+use Rattle.dayformat.proofs.Sizes.{length-field}
+use Rattle.dayrows.specs.Private.{Sound}
+use Rattle.daywriter.specs.Acceptance.{sound}
+use Rattle.daywriter.proofs.Accepting.{accepting, accepts}
 use Rattle.dayruns.specs.declared.walk.Walk.{Walk}
 use Rattle.dayruns.specs.Walk.{ended}
 use Rattle.dayfile.specs.File.{headed, tables, walked}
-use Rattle.dayformat.specs.DayBytes.{head-row, fields, file-of}
-use Rattle.daywriter.specs.Acceptance.{sound}
-use Rattle.daywriter.proofs.Accepting.{accepting, accepts}
-use Rattle.dayrows.specs.Private.{Sound}
-use Rattle.dayformat.proofs.Sizes.{length-field}
-use Rattle.roundtrip.specs.RoundTrip.{RoundTrips}
 use Rattle.dayfile.specs.Answer.{Reads, day-of}
 use Rattle.dayfile.proofs.Above.{Above, above-fields}
 use Rattle.dayfile.proofs.Agreeing.{agree-all}
-use Rattle.roundtrip.proofs.DayAgain.{Back, back-more}
 use Rattle.dayfile.proofs.FileAgain as again
+use Rattle.roundtrip.specs.RoundTrip.{RoundTrips}
+use Rattle.roundtrip.proofs.DayAgain.{Back, back-more}
 use Rattle.roundtrip.proofs.HeadAgain.{Bounded, headed-again, head-again}
 
 -- where nothing is left the walk ends as it stands

@@ -4,16 +4,16 @@ use mathlib.Core.List.{List}
 use Prim.Native.Nat.{ℕ, _^_, _≤_, _<_}
 use lib.ListN.{length, take}
 use Rattle.columns.specs.Column.{col}
-use Rattle.bigendian.specs.Number.{AreBytes}
 use Rattle.units.specs.declared.refusal.Check.the-variants.{Accepted}
+use Rattle.bigendian.specs.Number.{AreBytes}
 use Rattle.dayformat.specs.declared.day.Day.{Day}
 use Rattle.dayformat.specs.Layout.{numbers-in, file-size}
-use Rattle.dayfile.specs.declared.reader.Reading.{Reading}
-use Rattle.dayfile.specs.Answer.{Reads, ReadingAnswered, reading-verdict}
-use Rattle.daywriter.specs.declared.Written.{Written}
 use Rattle.dayformat.specs.DayBytes.{file-of}
+use Rattle.daywriter.specs.declared.Written.{Written}
 use Rattle.daywriter.specs.Acceptance.{sound}
 use Rattle.daywriter.specs.Answer.{WrittenAnswered, written-verdict}
+use Rattle.dayfile.specs.declared.reader.Reading.{Reading}
+use Rattle.dayfile.specs.Answer.{Reads, ReadingAnswered, reading-verdict}
 
 -- the writer accepts a day, whose file it is
 pub record Writes (day : Day) (numbers file : List ℕ) : Type 0 where

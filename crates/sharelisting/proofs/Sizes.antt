@@ -10,27 +10,27 @@ use Rattle.columns.proofs.Lists.{length-listed}
 use Rattle.units.specs.declared.refusal.Check.the-variants.{Accepted}
 use Rattle.units.specs.Bound.{most-gigajoules, most-capacity}
 use Rattle.lines.proofs.Sizes.{line-none, line-within, figure-within}
+use Rattle.lines.proofs.Texts.{texts-most}
 use Rattle.daytable.specs.Table.{Table, rows}
 use Rattle.daytable.specs.Acceptance.{table-check}
 use Rattle.daytable.proofs.Accepting.{Accepting, accepting}
-use Rattle.dayshares.specs.Given.{firm-given, firm-total, auction-given, lower-tier-given, left}
-use Rattle.dayshares.specs.Promise.{Promise}
-use Rattle.dayshares.proofs.Promises.{promises}
 use Rattle.dayformat.specs.declared.day.Day.{Day}
 use Rattle.dayformat.specs.declared.form.Tag.the-variants.{Shipper}
 use Rattle.dayformat.specs.Format.{column-in}
 use Rattle.dayformat.specs.Layout.{count}
+use Rattle.dayshares.specs.Given.{firm-given, firm-total, auction-given, lower-tier-given, left}
+use Rattle.dayshares.specs.Promise.{Promise}
+use Rattle.dayshares.proofs.Promises.{promises}
+use Rattle.dayrows.specs.Private.{Sound}
+use Rattle.dayvalues.specs.Shippers.{shipper-of}
+use Rattle.dayvalues.proofs.Sounds.{sound-number}
+use Rattle.numbershares.specs.DayTable.{table-of}
+use Rattle.numbershares.proofs.SharesAccept.{shares-accept}
 use Rattle.dayruns.specs.Walk.{file-check}
 use Rattle.dayruns.proofs.Ending.{faultless}
 use Rattle.dayfile.specs.File.{tables, walked}
 use Rattle.dayfile.specs.Answer.{day-of}
-use Rattle.dayrows.specs.Private.{Sound}
 use Rattle.dayfile.proofs.FileAgain.{day-number, read-sound}
-use Rattle.dayvalues.specs.Shippers.{shipper-of}
-use Rattle.numbershares.specs.DayTable.{table-of}
-use Rattle.lines.proofs.Texts.{texts-most}
-use Rattle.dayvalues.proofs.Sounds.{sound-number}
-use Rattle.numbershares.proofs.SharesAccept.{shares-accept}
 use Rattle.sharelisting.specs.SharesText.{firm-word, left-word, head-line, shipper-line, shares-text, shares-listing}
 
 -- ten digits for the day, seven for a total of gigajoules

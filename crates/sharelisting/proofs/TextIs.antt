@@ -7,21 +7,21 @@ use lib.ListN.{length, replicate, length-replicate}
 use lib.Seq.{sets}
 use Rattle.columns.specs.Column.{col, listed}
 use Rattle.columns.proofs.Lists.{length-listed, col-sets}
+use Rattle.columns.proofs.Joined.{joined-same}
 use Rattle.units.specs.declared.refusal.Refusal.{Refusal}
 use Rattle.units.specs.declared.refusal.Check.{Check}
 use Rattle.units.specs.Bound.{most-rows}
 use Rattle.daytable.specs.Table.{Table, rows}
+use Rattle.dayformat.specs.declared.day.Day.{Day}
+use Rattle.dayformat.specs.declared.form.Tag.the-variants.{Shipper}
+use Rattle.dayformat.specs.Layout.{count}
 use Rattle.dayshares.specs.declared.Day.{Day as DayShares}
 use Rattle.dayshares.specs.declared.Day.the-variants as DayShares
 use Rattle.dayshares.specs.declared.Shares.{Shares}
 use Rattle.dayshares.specs.Given.{firm-given, auction-given, lower-tier-given}
 use Rattle.dayshares.specs.Answer.{day-shares, shares-verdict}
-use Rattle.dayformat.specs.declared.day.Day.{Day}
-use Rattle.dayformat.specs.declared.form.Tag.the-variants.{Shipper}
-use Rattle.dayformat.specs.Layout.{count}
-use Rattle.columns.proofs.Joined.{joined-same}
-use Rattle.dayvalues.specs.Shippers.{shipper-of}
 use Rattle.dayrows.specs.Private.{Sound}
+use Rattle.dayvalues.specs.Shippers.{shipper-of}
 use Rattle.numbershares.specs.DayTable.{table-of}
 use Rattle.numbershares.specs.Answer.{numbers-check, NumbersAnswered}
 use Rattle.numbershares.proofs.SharesAccept.{numbers-accept}

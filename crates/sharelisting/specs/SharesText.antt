@@ -4,14 +4,14 @@ use Prim.Native.Nat.{ℕ}
 use Rattle.columns.specs.Column.{col, joined}
 use Rattle.text.specs.Text.{decimal}
 use Rattle.lines.specs.Line.{line, decimals, day-word}
-use Rattle.dayshares.specs.Given.{firm-given, firm-total, auction-given, lower-tier-given, left}
 use Rattle.dayformat.specs.declared.day.Day.{Day}
 use Rattle.dayformat.specs.declared.form.Tag.the-variants.{Shipper}
 use Rattle.dayformat.specs.Layout.{count}
-use Rattle.dayfile.specs.File.{tables}
-use Rattle.dayfile.specs.Answer.{day-of}
+use Rattle.dayshares.specs.Given.{firm-given, firm-total, auction-given, lower-tier-given, left}
 use Rattle.dayvalues.specs.Shippers.{shipper-of}
 use Rattle.numbershares.specs.DayTable.{table-of}
+use Rattle.dayfile.specs.File.{tables}
+use Rattle.dayfile.specs.Answer.{day-of}
 
 -- FIRM, LEFT
 abbrev pub firm-word : List ℕ

@@ -1,18 +1,15 @@
 -- The tests decide an answer of each routine: number 0 exactly where they accept, zero where they refuse.
 use mathlib.Core.Path.{_≡_, refl}
 use Prim.Native.Nat.{ℕ}
-use Rattle.units.specs.Verdict.{Decided}
 use Rattle.units.specs.declared.Megajoules.{Megajoules}
 use Rattle.units.specs.declared.Rate.{Rate}
+use Rattle.units.specs.Verdict.{Decided}
 use Rattle.units.proofs.Verdicts.{AllNumbered, none, _and_, kept-by, decided}
 use Rattle.tariff.specs.declared.charges.Change.{Change}
 use Rattle.tariff.specs.declared.charges.Charge.{Charge}
 use Rattle.tariff.specs.declared.escalation.Escalation.{Escalation}
-use Rattle.tariff.specs.Charges.{charge-answer, charge-verdict, overrun-cents, overrun-check, overrun-charge}
-use Rattle.tariff.specs.Charges.{variation-cents, variation-check, variation-charge}
-use Rattle.tariff.specs.Charges.{request-cents, request-check, request-charge}
-use Rattle.tariff.specs.Escalation.{escalation-answer, escalation-verdict}
-use Rattle.tariff.specs.Escalation.{escalated-rate, escalation-check, escalation}
+use Rattle.tariff.specs.Charges.{charge-answer, charge-verdict, overrun-cents, overrun-check, overrun-charge, variation-cents, variation-check, variation-charge, request-cents, request-check, request-charge}
+use Rattle.tariff.specs.Escalation.{escalation-answer, escalation-verdict, escalated-rate, escalation-check, escalation}
 
 module _ (rate : Rate) (overrun : Megajoules) where
   pub overrun-numbered : AllNumbered (overrun-check rate overrun)

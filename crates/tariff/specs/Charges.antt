@@ -1,14 +1,14 @@
 -- 01, "Charges": what an overrun, a variation and requests cost.
 use Prim.Native.Nat.{ℕ, _-_, _*_, max}
 use lib.Dec.{leb}
-use Rattle.units.specs.Bound.{most-gigajoules, most-chargeable, most-requests, most-rate}
-use Rattle.units.specs.Refusals.{_then_, keep}
-use Rattle.units.specs.Verdict.{Verdict, accepting, refusing}
 use Rattle.units.specs.declared.Gigajoules.{Gigajoules}
 use Rattle.units.specs.declared.Megajoules.{Megajoules}
 use Rattle.units.specs.declared.Cents.{Cents}
 use Rattle.units.specs.declared.Rate.{Rate}
 use Rattle.units.specs.declared.refusal.Check.{Check}
+use Rattle.units.specs.Bound.{most-gigajoules, most-chargeable, most-requests, most-rate}
+use Rattle.units.specs.Refusals.{_then_, keep}
+use Rattle.units.specs.Verdict.{Verdict, accepting, refusing}
 use Rattle.tariff.specs.declared.charges.Change.{Change}
 use Rattle.tariff.specs.declared.charges.Charge.{Charge}
 use Rattle.tariff.specs.HalfUp.{half-up}

@@ -1,11 +1,11 @@
 -- 01, "Charges"; cl. 9.2: a rate carried from an earlier CPI to a new one, both in tenths.
 use Prim.Native.Nat.{ℕ, _*_}
 use lib.Dec.{leb, ltb}
+use Rattle.units.specs.declared.Rate.{Rate}
+use Rattle.units.specs.declared.refusal.Check.{Check}
 use Rattle.units.specs.Bound.{most-rate, most-cpi}
 use Rattle.units.specs.Refusals.{_then_, keep}
 use Rattle.units.specs.Verdict.{Verdict, accepting, refusing}
-use Rattle.units.specs.declared.Rate.{Rate}
-use Rattle.units.specs.declared.refusal.Check.{Check}
 use Rattle.tariff.specs.declared.escalation.Escalation.{Escalation}
 use Rattle.tariff.specs.HalfUp.{half-up}
 

@@ -9,8 +9,8 @@ use borrow.Author.Tests.{eq-eqb, ne-eqb}
 use lib.ListN.{length}
 use Rattle.columns.specs.Column.{col}
 use Rattle.columns.proofs.Sums.{row-le-sum}
-use Rattle.units.specs.Bound.{most-system-use, most-gigajoules}
 use Rattle.sharing.proofs.Parts.{part-none, parts-spent}
+use Rattle.units.specs.Bound.{most-system-use, most-gigajoules}
 use Rattle.usegas.specs.Share.{weights, gas-shares}
 use Rattle.usegas.specs.Private.{Rows, Shareable}
 

@@ -4,8 +4,8 @@ use Prim.Native.Nat.{_+_, _-_, _≤_}
 use native.Mathlib.Omega.{arith}
 use borrow.Author.Needs.{needs}
 use lib.ListN.{length, drop}
-use Rattle.text.proofs.Laying.{word-none, word-next, word-all}
 use Rattle.columns.proofs.Laying.{Laying}
+use Rattle.text.proofs.Laying.{word-none, word-next, word-all}
 use Rattle.text.proofs.put_bytes.Statement.{statement}
 use Rattle.text.proofs.put_bytes.Tie as tie
 

@@ -4,10 +4,10 @@ use Prim.Native.Nat.{_+_, _/_}
 use native.Mathlib.Omega.{arith}
 use borrow.Author.Needs.{needs}
 use lib.ListN.{length as count}
+use Rattle.columns.proofs.Laying.{Laying, sets-past, laying-none}
 use Rattle.text.specs.Text.{decimal}
 use Rattle.text.proofs.Decimals.{some-byte, length-more}
 use Rattle.text.proofs.Laying.{number-next, number-all}
-use Rattle.columns.proofs.Laying.{Laying, sets-past, laying-none}
 use Rattle.text.proofs.put_decimal.Statement.{statement}
 use Rattle.text.proofs.put_decimal.Tie as tie
 

@@ -2,8 +2,8 @@
 use Prim.Native.Nat.{_≤_}
 use native.Mathlib.Nat.{le-refl}
 use native.Mathlib.Omega.{arith}
-use Rattle.dayformat.specs.declared.form.Tag.the-variants.{Meter}
 use Rattle.lines.proofs.Answers.{too-long, fits}
+use Rattle.dayformat.specs.declared.form.Tag.the-variants.{Meter}
 use borrow.Author.Needs.{needs}
 use Rattle.chargelisting.proofs.list.list_day.Statement.{statement}
 use Rattle.chargelisting.proofs.list.list_day.Tie as tie

@@ -1,8 +1,8 @@
 -- A refused file is refused by its own fault; a day that is read is sound, and listed.
 use Prim.Native.Nat.{ℕ}
 use lib.ListN.{length-replicate}
-use Rattle.chargelisting.specs.ChargesText.{charges-text}
 use Rattle.listings.proofs.Listing.{lists-refusal, part-sound, part-inside, part-long, lists-day}
+use Rattle.chargelisting.specs.ChargesText.{charges-text}
 use borrow.Author.Needs.{needs}
 use Rattle.chargelisting.proofs.list.list_file.Statement.{statement}
 use Rattle.chargelisting.proofs.list.list_file.Tie as tie

@@ -2,8 +2,8 @@
 use mathlib.Core.List.{List}
 use Prim.Native.Nat.{ℕ}
 use lib.ListN.{length-replicate}
-use Rattle.listings.proofs.Listing.{lists-refusal, part-inside, part-long, lists-day}
 use Rattle.columns.specs.Column.{col}
+use Rattle.listings.proofs.Listing.{lists-refusal, part-inside, part-long, lists-day}
 use Rattle.pointlisting.specs.PointsText.{points-text}
 use Rattle.pointlisting.proofs.FileLists.{reads-part}
 use borrow.Author.Needs.{needs}

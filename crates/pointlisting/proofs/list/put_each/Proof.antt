@@ -5,8 +5,8 @@ use native.Mathlib.Nat.{le-antisymm}
 use native.Mathlib.Omega.{arith}
 use Rattle.columns.specs.Column.{col, joined}
 use Rattle.text.specs.Text.{Laid}
-use Rattle.dayformat.specs.declared.form.Tag.the-variants.{Point}
 use Rattle.lines.proofs.Texts.{texts-none, texts-more, laid-long}
+use Rattle.dayformat.specs.declared.form.Tag.the-variants.{Point}
 use Rattle.pointlisting.specs.PointsText.{point-lines}
 use borrow.Author.Needs.{needs}
 use Rattle.pointlisting.proofs.list.put_each.Statement.{statement}

@@ -2,8 +2,8 @@
 use Prim.Native.Nat.{ℕ}
 use lib.ListN.{length-replicate}
 use Rattle.columns.specs.Column.{col}
-use Rattle.sharelisting.specs.SharesText.{shares-text}
 use Rattle.listings.proofs.Listing.{lists-refusal, part-sound, part-inside, part-long, lists-day}
+use Rattle.sharelisting.specs.SharesText.{shares-text}
 use borrow.Author.Needs.{needs}
 use Rattle.sharelisting.proofs.list.list_shares.Statement.{statement}
 use Rattle.sharelisting.proofs.list.list_shares.Tie as tie

@@ -3,9 +3,9 @@ use Prim.Native.Nat.{_-_, _*_, _≤_}
 use native.Mathlib.Omega.{arith}
 use Rattle.columns.specs.Column.{col}
 use Rattle.text.specs.Text.{Laid}
+use Rattle.lines.proofs.Texts.{texts-none, texts-more, texts-all, laid-long}
 use Rattle.dayvalues.specs.Shippers.{shipper-of}
 use Rattle.sharelisting.specs.SharesText.{shipper-lines}
-use Rattle.lines.proofs.Texts.{texts-none, texts-more, texts-all, laid-long}
 use borrow.Author.Needs.{needs}
 use Rattle.sharelisting.proofs.sharestext.put_shippers.Statement.{statement}
 use Rattle.sharelisting.proofs.sharestext.put_shippers.Tie as tie
