@@ -34,21 +34,21 @@ widths-are Point = refl
 widths-are Entry = refl
 widths-are Meter = refl
 
-pub shipper-size : form Shipper .size ≡ 22
+pub shipper-body-size : form Shipper .size ≡ 22
 unfolding listed size column-in
-shipper-size = refl
+shipper-body-size = refl
 
-pub point-size : form Point .size ≡ 7
+pub point-body-size : form Point .size ≡ 7
 unfolding listed size column-in
-point-size = refl
+point-body-size = refl
 
-pub entry-size : form Entry .size ≡ 9
+pub entry-body-size : form Entry .size ≡ 9
 unfolding listed size column-in
-entry-size = refl
+entry-body-size = refl
 
-pub meter-size : form Meter .size ≡ 270
+pub meter-body-size : form Meter .size ≡ 270
 unfolding listed size column-in
-meter-size = refl
+meter-body-size = refl
 
 -- ---- numbers of one width take so many bytes, and what follows them is read after them
 size-replicate : (many width : ℕ) → size (replicate many width) ≡ many * width

@@ -1,4 +1,5 @@
 -- How far a walk can come in a file of any length: a run has no more fields than there may be, so it stays within a full day's file.
+use mathlib.Core.Path.{_≡_, refl}
 use mathlib.Core.Bool.{Bool, true, false, cond}
 use mathlib.Core.List.{List, [], _++_}
 use Prim.Native.Nat.{ℕ, _+_, _*_, _≤_}
@@ -11,7 +12,7 @@ use Rattle.bigendian.specs.Row.{size}
 use Rattle.dayformat.specs.declared.form.Tag.{Tag}
 use Rattle.dayformat.specs.declared.form.Tag.the-variants.{Head, Shipper, Point, Entry, Meter}
 use Rattle.dayformat.specs.Format.{column-in, field-size, form}
-use Rattle.dayformat.specs.Layout.{numbers-in, most-numbers}
+use Rattle.dayformat.specs.Layout.{numbers-in, file-size, most-counts, most-numbers}
 use Rattle.dayformat.specs.Private.{Few}
 use Rattle.dayruns.specs.declared.walk.Walk.{Walk}
 use Rattle.dayruns.specs.Run.{rows-of, stops}
@@ -67,9 +68,13 @@ tabled-reached file tag T {most} R = by (eqb (T .walk .fault) 0)
         }
     by false = record { fault = R .fault; place = omega (arith, R .place); few = R .few }
 
--- a head, 64 shippers, 32 points, 512 entries and 64 meters
+-- a head, 64 shippers, 32 points, 512 entries and 64 meters: the file of a full day
 abbrev pub most-file : ℕ
 most-file = 25_551
+
+pub full-day : file-size most-counts ≡ most-file
+unfolding size listed column-in
+full-day = refl
 
 tables-reached : (file : List ℕ) → Reached most-file (tables file .walk)
 unfolding size listed column-in

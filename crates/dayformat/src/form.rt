@@ -75,7 +75,7 @@ pub const LENGTH_WIDTH: usize = 2;
 pub const HEADER: usize = 1 + LENGTH_WIDTH;
 
 // How many numbers a body holds, kind by kind, and in how many bytes.
-pub const HEAD_COLUMNS: usize = 1 + 2;
+const HEAD_COLUMNS: usize = 1 + 2;
 
 const HEAD_BODY: usize = NUMBER.width + 2 * GIGAJOULES.width;
 

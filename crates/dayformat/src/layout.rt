@@ -20,11 +20,18 @@ ghost use Prim.Native.Nat.{_^_, _<_};
 ghost use Rattle.dayformat.specs.Layout.{count, with-count, table-start, row-start, numbers-in, file-size};
 ghost use Rattle.dayformat.specs.Acceptance.{counts-check};
 
-// How many numbers a day's tables have at most.
+// How many numbers a day has at most.
 pub const MOST_NUMBERS: usize = MOST_SHIPPERS as usize * SHIPPER_COLUMNS
     + MOST_POINTS as usize * POINT_COLUMNS
     + MOST_ENTRIES as usize * ENTRY_COLUMNS
     + MOST_METERS as usize * METER_COLUMNS;
+
+// How many bytes its file has at most.
+pub const MOST_BYTES: usize = HEAD_FIELD
+    + MOST_SHIPPERS as usize * SHIPPER_FIELD
+    + MOST_POINTS as usize * POINT_FIELD
+    + MOST_ENTRIES as usize * ENTRY_FIELD
+    + MOST_METERS as usize * METER_FIELD;
 
 // The fields of tags 2 to 5.
 pub struct Counts {

@@ -24,6 +24,7 @@ pub use form::Tag;
 pub use form::column_at;
 pub use form::form_of;
 pub use layout::Counts;
+pub use layout::MOST_BYTES;
 pub use layout::MOST_NUMBERS;
 pub use layout::count_of;
 pub use layout::file_size;

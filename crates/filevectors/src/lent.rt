@@ -11,10 +11,10 @@ pub const LENT_NUMBER: usize = 4_000_000_000;
 pub const LENT_BYTE: u8 = 255;
 
 // No block of numbers has more room: one more than a full day has.
-pub const MOST_NUMBERS: usize = 6_881;
+pub const MOST_NUMBERS: usize = dayformat::MOST_NUMBERS + 1;
 
 // No block of bytes: one more than a full day's file has, and no listing is as long.
-pub const MOST_BYTES: usize = 25_552;
+pub const MOST_BYTES: usize = dayformat::MOST_BYTES + 1;
 
 pub fn put_numbers(lent: &[usize; MOST_NUMBERS], room: usize) {
     let written = written_numbers(lent, room);

@@ -1,1 +1,1 @@
-// What the reader accepts, the routines that a listing calls accept; and how a listing's text is laid: theorems and laws.
+// A file is listed, or refused by its own fault: theorems about the reader that every listing uses.

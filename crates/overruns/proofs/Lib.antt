@@ -6,4 +6,4 @@ pub mod Answers
 pub mod WholeDay
 pub mod Decided
 pub mod Promises
-pub mod Adding
+pub mod AddedPeriods

@@ -1,4 +1,4 @@
-// Gigajoules, megajoules, cents and rates; 01's bounds; a refusal; the first figure of a list above a bound.
+// Gigajoules, megajoules, cents and rates; 01's bounds; a refusal; a list's figures, and the first above a bound.
 mod above;
 mod bounds;
 mod refusal;

@@ -12,7 +12,7 @@ use Rattle.usegas.specs.declared.fuel.ImbalanceFuel.{ImbalanceFuel}
 use Rattle.usegas.specs.Share.{none as nobody}
 use Rattle.usegas.specs.General.{general-check, general-given, gas-answer, gas-verdict, GasAnswered}
 use Rattle.usegas.specs.Heater.{HeaterAnswered}
-use Rattle.usegas.specs.Fuel as Fuel
+use Rattle.usegas.specs.Fuel.{fuel-check, greatest, fuel, fuel-answer, imbalance-fuel, fuel-verdict}
 
 pub general-numbered : (sug fssug foundation : ℕ) (schedules : List ℕ) (room : ℕ)
     → AllNumbered (general-check sug fssug foundation schedules room)
@@ -41,10 +41,10 @@ pub heater-decided : {sug : ℕ} {schedules lent after : List ℕ} {gas : UseGas
     (gas-verdict gas)
 heater-decided A = general-decided A
 
-pub fuel-numbered : (start end : Imbalance) (mdq : Gigajoules) → AllNumbered (Fuel.fuel-check start end mdq)
-unfolding Fuel.fuel-check
+pub fuel-numbered : (start end : Imbalance) (mdq : Gigajoules) → AllNumbered (fuel-check start end mdq)
+unfolding fuel-check
 fuel-numbered start end mdq = none and kept-by _ 3 tt tt and kept-by _ 3 tt tt and kept-by _ 3 tt tt
 
-pub fuel-decided : (start end : Imbalance) (mdq : Gigajoules) {fuel : ImbalanceFuel} → fuel ≡ Fuel.imbalance-fuel start end mdq
-    → Decided (Fuel.fuel-check start end mdq) (Fuel.fuel (Fuel.greatest start end) mdq) (record { 0 = 0 }) (Fuel.fuel-verdict fuel)
-fuel-decided start end mdq = decided Fuel.fuel-answer Fuel.fuel-verdict refl (λ refusal. refl) (fuel-numbered start end mdq)
+pub fuel-decided : (start end : Imbalance) (mdq : Gigajoules) {answer : ImbalanceFuel} → answer ≡ imbalance-fuel start end mdq
+    → Decided (fuel-check start end mdq) (fuel (greatest start end) mdq) (record { 0 = 0 }) (fuel-verdict answer)
+fuel-decided start end mdq = decided fuel-answer fuel-verdict refl (λ refusal. refl) (fuel-numbered start end mdq)

@@ -12,7 +12,7 @@ use units::Gigajoules;
 ghost use Prim.Native.Nat.{_≤_};
 
 // No day has more numbers: one more than a full one.
-const MOST_NUMBERS: usize = 6_881;
+const MOST_NUMBERS: usize = dayformat::MOST_NUMBERS + 1;
 
 pub fn day_of(case: &[u8]) -> Day {
     Day {

@@ -7,7 +7,7 @@ use lib.ListN.{length}
 use Rattle.dayformat.specs.declared.form.Tag.the-variants.{Meter}
 use Rattle.dayformat.specs.Format.{name, gigajoules, hour, backhaul, _of_}
 use Rattle.dayrows.specs.Test.{starved}
-use Rattle.daybodies.proofs.BodyReading.{meter-size, kinds-none, kinds-next}
+use Rattle.daybodies.proofs.BodyReading.{meter-body-size, kinds-none, kinds-next}
 use Rattle.daybodies.proofs.Bodies.{Ready, is-ready, unread, body-plain}
 use borrow.Author.Needs.{needs}
 use Rattle.daybodies.proofs.body.read_meter.Statement.{statement}
@@ -41,7 +41,7 @@ read-kind-requires : tie.Need-read-kind-requires
 read-kind-requires c κs =
     let place = c .before in (
       omega arith,
-      omega (arith, ready place .there, meter-size),
+      omega (arith, ready place .there, meter-body-size),
       omega (arith, ready place .fits, place .row-place .ensures .0),
     )
 
@@ -49,7 +49,7 @@ add-read-kind-2 : tie.Need-add-read-kind-2
 add-read-kind-2 c =
     let one = c .before .before in
     let place = one .before .before in
-    omega (arith, ready place .there, meter-size, start-of place .good .1 .0 .0)
+    omega (arith, ready place .there, meter-body-size, start-of place .good .1 .0 .0)
 
 add-read-kind-3 : tie.Need-add-read-kind-3
 add-read-kind-3 c = search needs
@@ -59,7 +59,7 @@ read-kind-requires-2 c κs =
     let one = c .before .before .before in
     let place = one .before .before in (
       omega arith,
-      omega (arith, ready place .there, meter-size),
+      omega (arith, ready place .there, meter-body-size),
       omega (arith, ready place .fits, place .row-place .ensures .0, one .read-kind .kept .1 .1 .1 .1 .0),
     )
 
@@ -68,7 +68,7 @@ add-read-kind-4 c =
     let two = c .before .before in
     let one = two .before .before .before .before in
     let place = one .before .before in
-    omega (arith, ready place .there, meter-size, start-of place .good .1 .0 .0)
+    omega (arith, ready place .there, meter-body-size, start-of place .good .1 .0 .0)
 
 add-read-kind-5 : tie.Need-add-read-kind-5
 add-read-kind-5 c = search needs
@@ -79,7 +79,7 @@ read-kind-requires-3 c κs =
     let one = two .before .before .before .before in
     let place = one .before .before in (
       omega arith,
-      omega (arith, ready place .there, meter-size),
+      omega (arith, ready place .there, meter-body-size),
       omega (
         arith,
         ready place .fits,
@@ -95,7 +95,7 @@ add-read-kind-6 c =
     let two = three .before .before .before .before in
     let one = two .before .before .before .before in
     let place = one .before .before in
-    omega (arith, ready place .there, meter-size, start-of place .good .1 .0 .0)
+    omega (arith, ready place .there, meter-body-size, start-of place .good .1 .0 .0)
 
 add-read-kind-7 : tie.Need-add-read-kind-7
 add-read-kind-7 c = search needs
@@ -107,7 +107,7 @@ read-kind-requires-4 c κs =
     let one = two .before .before .before .before in
     let place = one .before .before in (
       omega arith,
-      omega (arith, ready place .there, meter-size),
+      omega (arith, ready place .there, meter-body-size),
       omega (
         arith,
         ready place .fits,
@@ -125,7 +125,7 @@ add-read-kind-8 c =
     let two = three .before .before .before .before in
     let one = two .before .before .before .before in
     let place = one .before .before in
-    omega (arith, ready place .there, meter-size, start-of place .good .1 .0 .0)
+    omega (arith, ready place .there, meter-body-size, start-of place .good .1 .0 .0)
 
 add-read-kind-9 : tie.Need-add-read-kind-9
 add-read-kind-9 c = search needs
@@ -138,7 +138,7 @@ read-kind-requires-5 c κs =
     let one = two .before .before .before .before in
     let place = one .before .before in (
       omega arith,
-      omega (arith, ready place .there, meter-size),
+      omega (arith, ready place .there, meter-body-size),
       omega (
         arith,
         ready place .fits,

@@ -7,7 +7,7 @@ use lib.ListN.{length}
 use Rattle.dayformat.specs.declared.form.Tag.the-variants.{Point}
 use Rattle.dayformat.specs.Format.{side, name, hour, _of_}
 use Rattle.dayrows.specs.Test.{starved}
-use Rattle.daybodies.proofs.BodyReading.{point-size, kinds-none, kinds-next}
+use Rattle.daybodies.proofs.BodyReading.{point-body-size, kinds-none, kinds-next}
 use Rattle.daybodies.proofs.Bodies.{Ready, is-ready, unread, body-plain}
 use borrow.Author.Needs.{needs}
 use Rattle.daybodies.proofs.body.read_point.Statement.{statement}
@@ -41,7 +41,7 @@ read-kind-requires : tie.Need-read-kind-requires
 read-kind-requires c κs =
     let place = c .before in (
       omega arith,
-      omega (arith, ready place .there, point-size),
+      omega (arith, ready place .there, point-body-size),
       omega (arith, ready place .fits, place .row-place .ensures .0),
     )
 
@@ -49,7 +49,7 @@ add-read-kind-2 : tie.Need-add-read-kind-2
 add-read-kind-2 c =
     let one = c .before .before in
     let place = one .before .before in
-    omega (arith, ready place .there, point-size, start-of place .good .1 .0 .0)
+    omega (arith, ready place .there, point-body-size, start-of place .good .1 .0 .0)
 
 add-read-kind-3 : tie.Need-add-read-kind-3
 add-read-kind-3 c = search needs
@@ -59,7 +59,7 @@ read-kind-requires-2 c κs =
     let one = c .before .before .before in
     let place = one .before .before in (
       omega arith,
-      omega (arith, ready place .there, point-size),
+      omega (arith, ready place .there, point-body-size),
       omega (arith, ready place .fits, place .row-place .ensures .0, one .read-kind .kept .1 .1 .1 .1 .0),
     )
 
@@ -68,7 +68,7 @@ add-read-kind-4 c =
     let two = c .before .before in
     let one = two .before .before .before .before in
     let place = one .before .before in
-    omega (arith, ready place .there, point-size, start-of place .good .1 .0 .0)
+    omega (arith, ready place .there, point-body-size, start-of place .good .1 .0 .0)
 
 add-read-kind-5 : tie.Need-add-read-kind-5
 add-read-kind-5 c = search needs
@@ -79,7 +79,7 @@ read-kind-requires-3 c κs =
     let one = two .before .before .before .before in
     let place = one .before .before in (
       omega arith,
-      omega (arith, ready place .there, point-size),
+      omega (arith, ready place .there, point-body-size),
       omega (
         arith,
         ready place .fits,

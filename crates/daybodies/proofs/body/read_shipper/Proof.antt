@@ -6,7 +6,7 @@ use borrow.Author.Tests.{not-true, not-false}
 use lib.ListN.{length}
 use Rattle.dayformat.specs.declared.form.Tag.the-variants.{Shipper}
 use Rattle.dayformat.specs.Format.{name, gigajoules, _of_}
-use Rattle.daybodies.proofs.BodyReading.{shipper-size, kinds-none, kinds-next}
+use Rattle.daybodies.proofs.BodyReading.{shipper-body-size, kinds-none, kinds-next}
 use Rattle.daybodies.proofs.Bodies.{Ready, is-ready, unread, body-read}
 use borrow.Author.Needs.{needs}
 use Rattle.daybodies.proofs.body.read_shipper.Statement.{statement}
@@ -40,7 +40,7 @@ read-kind-requires : tie.Need-read-kind-requires
 read-kind-requires c κs =
     let place = c .before in (
       omega arith,
-      omega (arith, ready place .there, shipper-size),
+      omega (arith, ready place .there, shipper-body-size),
       omega (arith, ready place .fits, place .row-place .ensures .0),
     )
 
@@ -48,7 +48,7 @@ add-read-kind-2 : tie.Need-add-read-kind-2
 add-read-kind-2 c =
     let one = c .before .before in
     let place = one .before .before in
-    omega (arith, ready place .there, shipper-size, start-of place .good .1 .0 .0)
+    omega (arith, ready place .there, shipper-body-size, start-of place .good .1 .0 .0)
 
 add-read-kind-3 : tie.Need-add-read-kind-3
 add-read-kind-3 c = search needs
@@ -58,7 +58,7 @@ read-kind-requires-2 c κs =
     let one = c .before .before .before in
     let place = one .before .before in (
       omega arith,
-      omega (arith, ready place .there, shipper-size),
+      omega (arith, ready place .there, shipper-body-size),
       omega (arith, ready place .fits, place .row-place .ensures .0, one .read-kind .kept .1 .1 .1 .1 .0),
     )
 

@@ -3,7 +3,7 @@ use Prim.Native.Nat.{_+_, _≤_, _-_}
 use native.Mathlib.Omega.{arith}
 use borrow.Author.Needs.{needs}
 use Rattle.columns.specs.Column.{col}
-use Rattle.overruns.proofs.Adding.{Added, given-before, added-before, one-more, periods-fit}
+use Rattle.overruns.proofs.AddedPeriods.{Added, given-before, added-before, one-more, periods-fit}
 use Rattle.overruns.proofs.Parts.{part-few, part-gas, part-within}
 use Rattle.overruns.proofs.twelve_hourly.add_periods.Statement.{statement}
 use Rattle.overruns.proofs.twelve_hourly.add_periods.Tie as tie
