@@ -1,4 +1,4 @@
--- A text that is counted first, from the block's end on, answers a listing whose input is accepted.
+-- A text that is counted first, from the block's end on, answers a listing whose input is accepted; a refused input has none.
 use mathlib.Core.Path.{_≡_, ap, _∙_}
 use mathlib.Core.List.{List}
 use Prim.Native.Nat.{ℕ, _≤_, _<_}
@@ -7,8 +7,10 @@ use native.Mathlib.Omega.{arith}
 use borrow.Author.Tests.{le-leb, lt-leb}
 use lib.ListN.{length}
 use lib.Seq.{sets}
-use Rattle.units.specs.declared.refusal.Check.the-variants.{Accepted}
 use Rattle.units.specs.declared.refusal.Refusal.{Refusal}
+use Rattle.units.specs.declared.refusal.Check.{Check}
+use Rattle.units.specs.declared.refusal.Check.the-variants as Check
+use Rattle.units.specs.declared.refusal.Check.the-variants.{Accepted}
 use Rattle.units.specs.Refusals.{plain, _then_, keep}
 use Rattle.text.specs.Text.{Laid}
 use Rattle.lines.specs.declared.Listing.the-variants.{Refused, Text}
@@ -31,3 +33,9 @@ module _ {text lent between : List ℕ} {size : ℕ} (counted : Laid text lent (
   fits h laid =
       let short = le-leb (length text) (length lent) (omega (arith, counted .counts)) in
       record { answers = rw (short, counted .counts); leaves = rw short (laid .lays ∙ ap (λ list. sets list 0 text) same) }
+
+-- for callers: what the tests refuse
+pub refused-before : {tests : Check} {refusal : Refusal} (text lent : List ℕ) → tests ≡ Check.Refused refusal
+    → ListingAnswered tests text lent lent (Refused refusal)
+unfolding listing-check _then_
+refused-before text lent e = record { answers = rw e; leaves = rw e }

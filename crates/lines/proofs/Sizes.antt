@@ -23,3 +23,8 @@ line-within word (next ∷ words) l h =
 pub figure-within : (k figure : ℕ) (words : List (List ℕ)) {n : ℕ} → figure < 10 ^ suc k → length (line words) ≤ n
     → length (line (decimal figure ∷ words)) ≤ k + 2 + n
 figure-within k figure words l h = omega (arith, line-within (decimal figure) words (length-below k figure l) h)
+
+-- the last of a line
+pub figure-last : (k figure : ℕ) → figure < 10 ^ suc k → length (line (decimal figure ∷ [])) ≤ k + 2
+unfolding line
+figure-last k figure l = omega (arith, length-append (decimal figure) (10 ∷ []), length-below k figure l)

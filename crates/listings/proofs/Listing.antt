@@ -14,7 +14,8 @@ use Rattle.units.specs.Refusals.{_then_}
 use Rattle.units.proofs.Checks.{accepts-both, accepts-kept, both-accepted}
 use Rattle.lines.specs.declared.Listing.{Listing}
 use Rattle.lines.specs.declared.Listing.the-variants as Listing
-use Rattle.lines.specs.Answer.{ListingAnswered, listing-check}
+use Rattle.lines.specs.Answer.{ListingAnswered}
+use Rattle.lines.proofs.Answers.{refused-before}
 use Rattle.dayformat.specs.declared.day.Day.{Day}
 use Rattle.dayformat.specs.Layout.{numbers-in}
 use Rattle.dayrows.specs.Private.{Sound}
@@ -54,8 +55,7 @@ module _ (file lent after : List ℕ) (room : length lent ≡ 6_880) (x : Refusa
           ∙ rw e in ap (λ refusal. Refused refusal) (sym (ap (refusal-or x) same))
 
   pub lists-refusal : (text block : List ℕ) → ListingAnswered (file-check (walked file)) text block block (Listing.Refused x)
-  unfolding listing-check _then_
-  lists-refusal text block = record { answers = rw file-refused; leaves = rw file-refused }
+  lists-refusal text block = refused-before text block file-refused
 
 -- ---- a day
 module _ (file lent numbers : List ℕ) (day : Day) (R : ReadingAnswered file lent numbers (Reading.Read day)) where

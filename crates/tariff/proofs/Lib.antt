@@ -1,4 +1,5 @@
 pub mod HalfUps
+pub mod Most
 pub mod Products
 pub mod Charged
 pub mod Escalated

@@ -47,6 +47,10 @@ larger a b = record { 0 = max (a .0) (b .0) }
 abbrev pub variation-cents : Rate → Change → Change → Cents
 variation-cents rate receipt delivery = record { 0 = half-up (rate .0 * larger (upward receipt) (upward delivery) .0) 1_000 }
 
+-- the most that they can be
+abbrev pub most-variation : ℕ
+most-variation = 100_000_000_000
+
 unfoldable pub variation-check : Rate → Change → Change → Check
 variation-check rate receipt delivery =
     Check.Accepted
@@ -62,6 +66,10 @@ variation-charge rate receipt delivery = charge-answer (variation-check rate rec
 -- cl. 9.5: rate / 1,000, rounded, then times the number of requests
 abbrev pub request-cents : Rate → ℕ → Cents
 request-cents rate requests = record { 0 = half-up (rate .0) 1_000 * requests }
+
+-- the most that they can be
+abbrev pub most-request : ℕ
+most-request = 100_000_000
 
 unfoldable pub request-check : Rate → ℕ → Check
 request-check rate requests =
