@@ -9,10 +9,11 @@
  * Threads: the library keeps nothing between calls, so that several threads may call it at once, so long as no call uses what another
  * is lent to write.
  *
- * Stack: have 128 kB free for a function that lists or checks a file, 64 kB for cormcushion_read_day, 8 kB for the others; no proof
- * speaks of it. They take 114, 56 and 2 kB at most: so much do the frames in the archive come to along every chain of calls, none of
- * which comes back to itself, and so deep did calls write on stacks filled with a pattern, given full files of 25,551 bytes, sound and
- * damaged. Where the stack is shorter the process ends at its guard page.
+ * Stack: have 128 kB free for a function that lists or checks a file, 64 kB for cormcushion_read_day, 32 kB for
+ * cormcushion_month_statement, 8 kB for the others; no proof speaks of it. They take 114, 56, 19 and 2 kB at most: so much do the
+ * frames in the archive come to along every chain of calls, none of which comes back to itself, and so deep did calls write on stacks
+ * filled with a pattern, given full files of 25,551 bytes, sound and damaged, and months of 31 days, sound and refused. Where the
+ * stack is shorter the process ends at its guard page.
  *
  * The answer is one number in fixed decimal digits: the last fifteen are a figure, the two before them 01's refusal number, those
  * before these a kind, which is 0 today. Where the number is 0 the call is accepted and the figure is its answer; else the call is
@@ -54,6 +55,18 @@ uint64_t cormcushion_list_charges(const uint8_t *file, size_t file_length, uint3
  * Figure:   the text's length in bytes.
  * Refuses:  as cormcushion_list_shares. */
 uint64_t cormcushion_list_points(const uint8_t *file, size_t file_length, uint8_t *text, size_t text_room);
+
+/* The statement of a shipper's month: its days are handed in one after another, then the month is closed.
+ * Reads:    numbers, eight for each day: the day's own; the hourly, the twelve-hourly, the daily receipt and the daily delivery
+ *           overrun and the chargeable quantity, in megajoules; the variation and the request charge, in cents.
+ * Writes:   the text to the front of `text`: a line for each day, its eight numbers parted by single spaces; then TOTAL and the
+ *           sums of the last seven. 2,916 bytes hold every statement.
+ * Figure:   the text's length in bytes.
+ * Refuses:  9 at 0 where the count of the numbers is no multiple of eight; the first day at fault, at its row from 0: 3 for a 32nd
+ *           day, an own number above 4,294,967,295, a figure larger than the rules' bounds can yield or a chargeable quantity that
+ *           is not the greatest of the four overruns, 5 for a day not later than the one before; 7 at 0 where the text is longer
+ *           than the room. */
+uint64_t cormcushion_month_statement(const uint64_t *numbers, size_t numbers_count, uint8_t *text, size_t text_room);
 
 /* The check of a day file.
  * Reads:    file.

@@ -7,7 +7,7 @@ no bytes object: ctypes.ArgumentError.
 
 Functions may be called from several threads and run side by side: ctypes gives up the interpreter's lock for a call, and each call
 copies the lists that it is given and has room of its own for what is written. A thread needs 128 kB of stack free for a function that
-takes a file and 8 kB for the others, so threading.stack_size should not be set as low as that.
+takes a file, 32 kB for month_statement and 8 kB for the others, so threading.stack_size should not be set as low as that.
 """
 
 import ctypes
@@ -24,8 +24,10 @@ _library = ctypes.CDLL(os.environ.get("CORMCUSHION_LIBRARY", str(_SHARED_OBJECT)
 
 # What 1 counts for in the digits of 01's number, of which there are two; those before them are a kind, which no answer has yet.
 _ONE_NUMBER = 10**15
-# Every listing has room in so many bytes.
+# Every listing has room in so many bytes, and every statement.
 _MOST_TEXT = 16_384
+# A day of a month: its own number and seven figures.
+_DAY_NUMBERS = 8
 
 
 class Refusal(Exception):
@@ -74,6 +76,7 @@ _check_day = _typed("cormcushion_check_day", ctypes.c_char_p, ctypes.c_size_t)
 _list_shares = _typed("cormcushion_list_shares", ctypes.c_char_p, ctypes.c_size_t, *_LIST)
 _list_charges = _typed("cormcushion_list_charges", ctypes.c_char_p, ctypes.c_size_t, ctypes.c_uint32, *_LIST)
 _list_points = _typed("cormcushion_list_points", ctypes.c_char_p, ctypes.c_size_t, *_LIST)
+_month_statement = _typed("cormcushion_month_statement", *_LIST * 2)
 _share_day = _typed("cormcushion_share_day", *[ctypes.c_uint32] * 2, *_LIST * 8, ctypes.c_void_p)
 _overruns = _typed("cormcushion_overruns", *[ctypes.c_uint32] * 3, *[ctypes.c_void_p] * 6)
 
@@ -86,14 +89,15 @@ def _figure(answer):
     return figure
 
 
+# Of a bytes object array would make one number of several bytes; spread, each byte is a number.
 def _narrow(figures):
     """Numbers of 32 bits as C has them; one that does not fit is an OverflowError."""
-    return array("I", figures)
+    return array("I", [*figures])
 
 
 def _wide(figures):
     """Numbers of 64 bits."""
-    return array("Q", figures)
+    return array("Q", [*figures])
 
 
 def _lent(figures):
@@ -101,11 +105,12 @@ def _lent(figures):
     return figures.buffer_info()
 
 
-def _hours(figures, count):
-    """An hour list of its stated length, else 01's 9."""
-    if len(figures) != count:
+def _counted(figures, count):
+    """Numbers of 64 bits, as many as stated, else 01's 9."""
+    spread = [*figures]
+    if len(spread) != count:
         raise Refusal(9, 0)
-    return _wide(figures)
+    return _wide(spread)
 
 
 def _one(figure):
@@ -113,10 +118,10 @@ def _one(figure):
     return _narrow([figure])[0]
 
 
-def _text(listing, file, *more):
-    """The text of a listing."""
+def _text(listing, *arguments):
+    """The text of a listing or a statement."""
     text = ctypes.create_string_buffer(_MOST_TEXT)
-    size = _figure(listing(file, len(file), *more, ctypes.addressof(text), _MOST_TEXT))
+    size = _figure(listing(*arguments, ctypes.addressof(text), _MOST_TEXT))
     return text.raw[:size].decode("ascii")
 
 
@@ -127,17 +132,29 @@ def check(file):
 
 def shares(file):
     """The listing of a day file's shares: DAY number FIRM total LEFT left, then a line for each shipper."""
-    return _text(_list_shares, file)
+    return _text(_list_shares, file, len(file))
 
 
 def charges(file, rate=OVERRUN_RATE):
     """The listing of a day file's expected overrun charges: DAY number RATE rate, then a line for each shipper with a meter."""
-    return _text(_list_charges, file, _one(rate))
+    return _text(_list_charges, file, len(file), _one(rate))
 
 
 def points(file):
     """The listing of the hours at a day file's points: DAY number, then each point with its shippers' shares or its own refusal."""
-    return _text(_list_points, file)
+    return _text(_list_points, file, len(file))
+
+
+def month_statement(days):
+    """The statement of a shipper's month, whose days are handed in one after another: a line for each, then TOTAL and the sums.
+
+    A day is eight numbers: its own; the hourly, twelve-hourly, daily receipt and daily delivery overrun and the greatest of them,
+    which is charged, in megajoules; the variation and the request charge in cents. The first day at fault is refused at its row.
+    Before any is handed in, a day of more or fewer numbers is refused by 9 at 0, and a number that does not fit 64 bits is an
+    OverflowError.
+    """
+    numbers = _wide(number for day in days for number in _counted(day, _DAY_NUMBERS))
+    return _text(_month_statement, *_lent(numbers))
 
 
 def share_day(
@@ -160,7 +177,7 @@ def overruns(p, m, yesterday, delivered, received, schedules, metered, rate=OVER
     gigajoules: forward receipt, forward delivery, backhaul receipt, backhaul delivery; backhaul metered in megajoules: receipt,
     delivery.
     """
-    hours = [_hours(yesterday, 11), _hours(delivered, 24), _hours(received, 24)]
+    hours = [_counted(yesterday, 11), _counted(delivered, 24), _counted(received, 24)]
     forward_receipt, forward_delivery, backhaul_receipt, backhaul_delivery = schedules
     receipt, delivery = metered
     sides = [

@@ -6,6 +6,7 @@ python3 python/test_cormcushion.py
 import pathlib
 import sys
 import unittest
+from array import array
 from random import Random
 
 # behind: the second program has a file of the module's name
@@ -14,17 +15,27 @@ sys.path.append(str(pathlib.Path(__file__).resolve().parent.parent.joinpath("ref
 import cormcushion
 import dayfile
 import dayshares
+import filecases
 import listings
+import month
+import monthcases
 import overruncases
 import overruns
 import refusals
 import sharecases
 import tariff
 from answeredfiles import some_files
-from cases import SEED, cases_of
+from bounds import DAY_NUMBER
+from cases import SEED, cases_of, put
 
-DAY_ROUTINE = next(routine for routine in sharecases.ROUTINES if routine.name == "share_day")
-OVERRUN_ROUTINE = next(routine for routine in overruncases.ROUTINES if routine.name == "overruns_of_day")
+
+def named(routines, name):
+    return next(routine for routine in routines if routine.name == name)
+
+
+DAY_ROUTINE = named(sharecases.ROUTINES, "share_day")
+OVERRUN_ROUTINE = named(overruncases.ROUTINES, "overruns_of_day")
+MONTH_ROUTINE = named(monthcases.ROUTINES, "list_month")
 
 # What the library can be asked: numbers that fit their widths.
 NARROW, WIDE = 2**32, 2**64
@@ -40,9 +51,10 @@ def answer(refusal, rule, *arguments):
 
 class Held(unittest.TestCase):
     def held(self, rule, reference, *arguments):
-        """Both programs answer alike."""
+        """What both programs answer alike."""
         expected = answer(refusals.Refusal, reference, *arguments)
         self.assertEqual(expected, answer(cormcushion.Refusal, rule, *arguments))
+        return expected
 
 
 def second_share_day(*arguments):
@@ -62,6 +74,31 @@ def second_overruns(p, m, yesterday, delivered, received, schedules, metered, ra
 def second_charges(file, rate):
     refusals.require(rate <= 100_000_000, 3)
     return listings.charges_listing(file, rate)
+
+
+def second_month_statement(days):
+    return month.list_month([number for day in days for number in day])
+
+
+def lent_words(numbers, room):
+    """What the library makes of a lent block, told as a case's answer is: refusal, size, the block whole."""
+    given, lent = cormcushion._wide(numbers), array("B", [filecases.BYTES.lent] * room)
+    packed = cormcushion._month_statement(*cormcushion._lent(given), *cormcushion._lent(lent))
+    try:
+        words = [0, 0, cormcushion._figure(packed)]
+    except cormcushion.Refusal as refusal:
+        words = [refusal.number, refusal.place, 0]
+    return [*words, *filecases.BYTES.spell(lent)]
+
+
+def some_days(chance):
+    """Days of a month; at times one has another's place, or figures at fault."""
+    numbers = sorted(chance.sample(DAY_NUMBER, chance.randint(1, 32)))
+    days = [monthcases.some_day(chance, number) for number in numbers]
+    place = chance.randrange(len(days))
+    misplaced = put(days, place, chance.choice(days))
+    faulty = monthcases.with_figures(days, place, chance.choice(monthcases.FAULTY))
+    return chance.choice((days, misplaced, faulty))
 
 
 class Packed(unittest.TestCase):
@@ -109,6 +146,9 @@ class Days(Held):
             free_flow, compressor, _, _, _, *lists = sharecases.some_day(chance, chance.randint(0, 64))
             self.held(cormcushion.share_day, second_share_day, free_flow, compressor, *lists)
 
+    def test_bytes_are_numbers(self):
+        self.held(cormcushion.share_day, second_share_day, 10, 2, *[bytes([3, 9, 5, 7])] * 5)
+
     def test_a_figure_without_its_width(self):
         for figure in (-1, NARROW):
             with self.assertRaises(OverflowError):
@@ -137,10 +177,91 @@ class Meters(Held):
     def test_hours_of_another_length(self):
         self.held(cormcushion.overruns, second_overruns, 1, 1, [0] * 11, [0] * 23, [0] * 24, (0,) * 4, (0, 0), 1)
 
+    def test_bytes_are_numbers(self):
+        hours = bytes(range(24))
+        self.held(cormcushion.overruns, second_overruns, 0, 0, hours[:11], hours, hours, (0,) * 4, (0, 0), 1)
+
     def test_a_figure_without_its_width(self):
         for figure in (-1, WIDE):
             with self.assertRaises(OverflowError):
                 cormcushion.overruns(1, 1, [figure] * 11, [0] * 24, [0] * 24, (0,) * 4, (0, 0))
+
+
+class Months(Held):
+    def stated(self, days):
+        """What both programs make of the second one's days."""
+        rows = [month.numbers_of(day) for day in days]
+        return self.held(cormcushion.month_statement, second_month_statement, rows)
+
+    def refused(self, number, place, days):
+        self.assertEqual(("REFUSED", number, place), self.stated(days))
+
+    def test_worked_figures(self):
+        days = [(1, 0, 288_000, 0, 0, 288_000, 408, 0), (3, 5, 0, 7, 2, 7, 0, 362_710)]
+        text = "1 0 288000 0 0 288000 408 0\n3 5 0 7 2 7 0 362710\nTOTAL 5 288000 7 2 288007 408 362710\n"
+        self.assertEqual(text, self.held(cormcushion.month_statement, second_month_statement, days))
+
+    def test_no_days(self):
+        self.assertEqual("TOTAL 0 0 0 0 0 0 0\n", self.stated([]))
+
+    def test_longest(self):
+        self.assertEqual(2_916, len(self.stated(monthcases.LONGEST)))
+
+    def test_days_of_a_month(self):
+        days = [monthcases.sound_day(number) for number in range(33)]
+        self.assertEqual(32, self.stated(days[:31]).count("\n"))
+        self.refused(3, 31, days[:32])
+        self.refused(3, 31, days)
+        self.refused(3, 31, [*days[:31], days[0]])
+
+    def test_figures_at_fault(self):
+        for fault in monthcases.FAULTY:
+            for place in range(3):
+                self.refused(3, place, monthcases.with_figures(monthcases.THREE, place, fault))
+
+    def test_numbers(self):
+        first, last = monthcases.sound_day(0), monthcases.sound_day(NARROW - 1)
+        self.assertTrue(self.stated([first, last]).startswith("0 0 0 0 0 0 0 0\n4294967295 0 "))
+        for number in (NARROW, NARROW + 1, WIDE - 1):
+            self.refused(3, 1, [first, monthcases.sound_day(number)])
+        self.refused(5, 1, [first, first])
+        self.refused(5, 2, [first, last, last])
+        self.refused(5, 2, [first, last, monthcases.sound_day(7), monthcases.FAULTY[0]])
+
+    def test_days_of_another_length(self):
+        """Also where all numbers together would be whole days, or a day is at fault before."""
+        for lengths in ((0,), (1,), (7,), (9,), (16,), (8, 7), (7, 9), (9, 7), (4, 4)):
+            days = [[WIDE - 1] * length for length in lengths]
+            refused = answer(cormcushion.Refusal, cormcushion.month_statement, days)
+            self.assertEqual(("REFUSED", 9, 0), refused)
+
+    def test_any_sequence(self):
+        numbers = [1, 5, 0, 7, 2, 7, 0, 9]
+        text = "1 5 0 7 2 7 0 9\nTOTAL 5 0 7 2 7 0 9\n"
+        for day in (numbers, tuple(numbers), bytes(numbers), array("Q", numbers)):
+            self.assertEqual(text, cormcushion.month_statement([day]))
+
+    def test_a_number_without_its_width(self):
+        for place in range(month.ROW):
+            for number in (-1, WIDE):
+                with self.assertRaises(OverflowError):
+                    cormcushion.month_statement([put([0] * month.ROW, place, number)])
+            with self.assertRaises(TypeError):
+                cormcushion.month_statement([put([0] * month.ROW, place, 1.0)])
+
+    def test_lent_blocks(self):
+        """The cases' own, where 7 is refused and what is kept shows."""
+        cases = filecases.cases_of(MONTH_ROUTINE)
+        answers = [lent_words(*case) for case in cases]
+        self.assertEqual([monthcases.words_of(MONTH_ROUTINE, case) for case in cases], answers)
+        self.assertEqual({0, 3, 5, 7, 9}, {number for number, *_ in answers})
+
+    def test_months(self):
+        chance = Random(f"{SEED} months")
+        answers = [self.stated(some_days(chance)) for _ in range(300)]
+        refused = [told for told in answers if isinstance(told, tuple)]
+        self.assertEqual({3, 5}, {number for _, number, _ in refused})
+        self.assertLess(len(refused), len(answers))
 
 
 if __name__ == "__main__":

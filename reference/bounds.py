@@ -1,4 +1,4 @@
-"""01's bounds, each as the range of the whole numbers it allows."""
+"""01's bounds and that of C-11, each as the range of the whole numbers it allows."""
 
 
 def up_to(greatest):
@@ -20,10 +20,11 @@ REQUESTS = up_to(1_000)
 RATE = up_to(100_000_000)
 CPI = up_to(100_000)
 
-# How many: rows in any list of shippers, and the listed points and their entries.
+# How many: rows in any list of shippers, the listed points and their entries, the days of a month.
 SHIPPERS = up_to(64)
 POINTS = up_to(32)
 ENTRIES = up_to(512)
+MONTH_DAYS = up_to(31)
 
 DAY_NUMBER = up_to(0xFFFF_FFFF)
 NAME = range(1, 0x1_0000)

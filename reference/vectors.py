@@ -18,6 +18,7 @@ import filecases
 import gascases
 import hourcases
 import metercases
+import monthcases
 import overruncases
 import rowcases
 import sharecases
@@ -67,6 +68,12 @@ PROGRAMS = (
         filecases.cases_of,
         valuecases.words_of,
     ),
+    Program(
+        "monthvectors",
+        monthcases.ROUTINES,
+        filecases.cases_of,
+        monthcases.words_of,
+    ),
 )
 
 
@@ -102,6 +109,7 @@ def main():
         for name, content in made(program).items():
             stored = CRATES.joinpath(program.crate, name)
             if not sys.argv[1:]:
+                stored.parent.mkdir(exist_ok=True)
                 stored.write_bytes(content)
             elif stored.read_bytes() != content:
                 sys.exit(f"crates/{program.crate}/{name} is not what reference/vectors.py makes")

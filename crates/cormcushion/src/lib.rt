@@ -15,3 +15,4 @@ pub use meter::cormcushion_overruns;
 pub use texts::cormcushion_list_charges;
 pub use texts::cormcushion_list_points;
 pub use texts::cormcushion_list_shares;
+pub use texts::cormcushion_month_statement;

@@ -1,4 +1,4 @@
-// From a day file's bytes to the text that a program prints: its size, with the text at the front of the lent block.
+// From a day file's bytes, or a month's days, to a text: its size, with the text at the front of the lent block.
 use crate::answers::of_listing;
 use units::Rate;
 ghost use Rattle.dayfile.specs.File.{walked};
@@ -6,6 +6,7 @@ ghost use Rattle.dayruns.specs.Walk.{file-check};
 ghost use Rattle.sharelisting.specs.SharesText.{shares-listing};
 ghost use Rattle.chargelisting.specs.ChargesText.{charges-check, charges-listing};
 ghost use Rattle.pointlisting.specs.PointsText.{points-listing};
+ghost use Rattle.monthlisting.specs.Rows.{rows-check, month-listing};
 ghost use Rattle.cormcushion.specs.Lent.{ListingPacked};
 
 // The listing of a day's shares.
@@ -34,4 +35,13 @@ pub extern "C" fn cormcushion_list_points(file: &[u8], text: &mut [u8]) -> u64
         (now (text .entry)) (now (text .exit)) r ⌝ }
 {
     of_listing(pointlisting::list_points(file, text))
+}
+
+// The statement of a month, from its days as rows of eight numbers.
+#[no_mangle]
+pub extern "C" fn cormcushion_month_statement(numbers: &[u64], text: &mut [u8]) -> u64
+    ensures { λ r. ⌜ ListingPacked (rows-check (now (numbers .entry))) (month-listing (now (numbers .entry)))
+        (now (text .entry)) (now (text .exit)) r ⌝ }
+{
+    of_listing(monthlisting::list_month(numbers, text))
 }

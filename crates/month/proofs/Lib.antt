@@ -1,0 +1,11 @@
+pub mod Accepting
+pub mod Testing
+pub mod Examining
+pub mod Taking
+pub mod Totalling
+pub mod HandingIn
+pub mod Sizes
+pub mod Closing
+pub mod Worked
+pub mod Decided
+pub mod Determined

@@ -1,0 +1,88 @@
+-- Row after row, while each day is accepted, the account is the one after so many rows, and sound.
+use mathlib.Core.Path.{_≡_, refl, sym, ap, _∙_}
+use mathlib.Core.List.{List}
+use Prim.Native.Nat.{ℕ, zero, suc, _+_, _≤_, _<_}
+use native.Mathlib.Nat.{le-antisymm}
+use native.Mathlib.Numerals.{add-one}
+use native.Mathlib.Omega.{arith}
+use borrow.Author.Tests.{leb-true}
+use lib.ListN.{length}
+use Rattle.units.specs.declared.refusal.Refusal.{Refusal}
+use Rattle.units.specs.declared.refusal.Check.{Check}
+use Rattle.units.specs.declared.refusal.Check.the-variants.{Accepted, Refused}
+use Rattle.units.specs.Refusals.{at-row}
+use Rattle.units.proofs.Checks.{both-accepted, kept, accepts-both}
+use Rattle.month.specs.declared.account.Account.{Account}
+use Rattle.month.specs.declared.account.Taken.{Taken}
+use Rattle.month.specs.Each.{each}
+use Rattle.month.specs.Days.{most-days}
+use Rattle.month.specs.Account.{no-days, day-at, account-check}
+use Rattle.month.proofs.Accepting.{each-refused}
+use Rattle.month.proofs.HandingIn.{after-each, after-sound, after-long, none-long, none-sound}
+use Rattle.monthlisting.specs.Rows.{most-number, row-day, account-after, in-turn, placed, row-check, rows-of}
+use Rattle.monthlisting.specs.Private.{RowTaken, HandedIn}
+
+-- a placed refusal is a refusal, a placed acceptance an acceptance
+accepted-there : (row : ℕ) (found : Check) → placed row found ≡ Accepted → found ≡ Accepted
+accepted-there row Accepted e = refl
+accepted-there row (Refused refusal) e = cc
+
+module _ (numbers : List ℕ) where
+  -- ---- the loop
+  pub record Handing (row : ℕ) (A : Account) : Type 0 where
+    pub inside : row ≤ rows-of numbers
+    pub after : A ≡ account-after numbers row
+    pub accepted : each row (row-check numbers) ≡ Accepted
+
+  pub handing-none : {A : Account} → A ≡ no-days → Handing 0 A
+  unfolding account-after each
+  handing-none e = record { inside = omega arith; after = e; accepted = refl }
+
+  module _ {row : ℕ} {A : Account} (H : Handing row A) where
+    module _ (l : row < rows-of numbers) {taken : Taken} (T : RowTaken A numbers row taken) where
+      row-found : row-check numbers row ≡ placed row (taken .found)
+      row-found = ap (λ before. placed row (in-turn numbers before row)) (sym (H .after)) ∙ ap (placed row) (sym (T .found))
+
+      pub handing-next : taken .found ≡ Accepted → Handing (row + 1) (taken .account)
+      unfolding account-after each
+      handing-next e =
+          record {
+            inside = omega (arith, l);
+            after = rw (add-one, ← H .after) (T .account e);
+            accepted = rw add-one (accepts-both (H .accepted) (row-found ∙ ap (placed row) e));
+          }
+
+      pub handing-stops : {refusal there : Refusal} → taken .found ≡ Refused refusal → there ≡ at-row (refusal .number) row
+          → HandedIn numbers (record { account = A; found = Refused there })
+      handing-stops e is =
+          let refused = each-refused (row-check numbers) (rows-of numbers) row l (H .accepted) (row-found ∙ ap (placed row) e) in
+          record { found = ap Refused is ∙ sym refused; account = λ none. cc }
+
+    pub handing-all : rows-of numbers ≤ row → HandedIn numbers (record { account = A; found = Accepted })
+    handing-all l =
+        let all : row ≡ rows-of numbers = le-antisymm (H .inside) l in
+        record { found = rw all at (sym (H .accepted)); account = λ none. rw all at (H .after) }
+
+  -- ---- the account after accepted rows
+  pub record AfterRows (n : ℕ) (A : Account) : Type 0 where
+    pub many : A .count ≡ n
+    pub long : length (A .days) ≡ most-days
+    pub accepted : account-check A ≡ Accepted
+    pub small : (row : ℕ) → row < A .count → day-at A row .number ≤ most-number
+
+  pub after-rows : (n : ℕ) → each n (row-check numbers) ≡ Accepted → AfterRows n (account-after numbers n)
+  unfolding account-after each
+  after-rows zero e = record { many = refl; long = none-long; accepted = none-sound; small = λ row l. absurd (omega (arith, l)) }
+  after-rows (suc row) e =
+      let both = both-accepted _ _ e in
+      let S = after-rows row (both .0) in
+      let tests = both-accepted _ _ (accepted-there row _ (both .1)) in
+      let A = account-after numbers row in
+      let day = row-day numbers row in
+      rw (tests .1)
+      (record {
+        many = rw add-one (ap suc (S .many));
+        long = after-long A day (S .long) (tests .1);
+        accepted = after-sound A day (S .long) (tests .1);
+        small = after-each A day (S .long) (tests .1) (λ day. day .number ≤ most-number) (S .small) (leb-true _ _ (kept _ _ (tests .0)));
+      })

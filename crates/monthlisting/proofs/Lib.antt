@@ -1,0 +1,5 @@
+pub mod Taking
+pub mod Handing
+pub mod Listing
+pub mod Sizes
+pub mod Decided

@@ -1,0 +1,18 @@
+-- Room for every month's listing: accepted rows make a sound account, whose numbers are of 32 bits.
+use mathlib.Core.Path.{_≡_}
+use mathlib.Core.List.{List}
+use Prim.Native.Nat.{ℕ, _≤_}
+use lib.ListN.{length}
+use Rattle.units.specs.declared.refusal.Check.the-variants.{Accepted}
+use Rattle.units.proofs.Checks.{both-accepted}
+use Rattle.month.specs.Account.{day-at}
+use Rattle.month.specs.Statement.{most-statement}
+use Rattle.month.proofs.Sizes.{statement-most}
+use Rattle.monthlisting.specs.Rows.{account-after, rows-of, rows-check, month-listing}
+use Rattle.monthlisting.proofs.Handing.{after-rows}
+
+pub text-most : (numbers : List ℕ) → rows-check numbers ≡ Accepted → length (month-listing numbers) ≤ most-statement
+unfolding rows-check
+text-most numbers accepted =
+    let S = after-rows numbers (rows-of numbers) (both-accepted _ _ accepted .1) in
+    statement-most _ (day-at (account-after numbers (rows-of numbers))) (S .small) (S .accepted)
