@@ -3,14 +3,17 @@
 python3 python/test_cormcushion.py
 """
 
+import doctest
 import pathlib
 import sys
 import unittest
 from array import array
 from random import Random
 
+ROOT = pathlib.Path(__file__).resolve().parent.parent
+
 # behind: the second program has a file of the module's name
-sys.path.append(str(pathlib.Path(__file__).resolve().parent.parent.joinpath("reference")))
+sys.path.append(str(ROOT.joinpath("reference")))
 
 import cormcushion
 import dayfile
@@ -101,6 +104,14 @@ def some_days(chance):
     return chance.choice((days, misplaced, faulty))
 
 
+class Readme(unittest.TestCase):
+    def test_prompt(self):
+        """What README.md shows at Python's prompt is what is printed there."""
+        shown = doctest.testfile(str(ROOT.joinpath("README.md")), module_relative=False)
+        self.assertEqual(0, shown.failed)
+        self.assertLess(0, shown.attempted)
+
+
 class Packed(unittest.TestCase):
     def test_a_kind_is_no_part_of_the_number(self):
         kind = 2 * 10**17
@@ -121,7 +132,7 @@ class Files(Held):
                 self.held(cormcushion.check, lambda file: len(dayfile.read_day(file).numbers), file)
 
     def test_examples(self):
-        examples = pathlib.Path(__file__).resolve().parent.parent.joinpath("examples")
+        examples = ROOT.joinpath("examples")
         for name in ("small", "cool"):
             file = examples.joinpath(f"{name}.day").read_bytes()
             for listing in (cormcushion.shares, cormcushion.charges, cormcushion.points):

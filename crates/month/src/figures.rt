@@ -14,17 +14,6 @@ ghost use Rattle.excesses.specs.Greatest.{greatest};
 ghost use Rattle.month.specs.Figures.{figures-check, figure-list};
 ghost use Rattle.month.specs.Private.{plus, Small};
 
-// What 01's bounds can yield at most: all gas at its bound and every limit and schedule zero; the greatest rate.
-pub const MOST_HOURLY: Megajoules = Megajoules(24 * MOST_HOUR.0);
-
-pub const MOST_TWELVE_HOURLY: Megajoules = Megajoules(24 * 12 * MOST_HOUR.0);
-
-pub const MOST_DAILY: Megajoules = Megajoules(24 * MOST_HOUR.0 + MOST_BACKHAUL.0);
-
-pub const MOST_VARIATION: Cents = Cents(MOST_RATE.0 as u64 * MOST_GIGAJOULES.0 as u64 / 1_000);
-
-pub const MOST_REQUEST: Cents = Cents(MOST_RATE.0 as u64 / 1_000 * MOST_REQUESTS as u64);
-
 // The four overruns in 01's order, the chargeable quantity, the charges for variation and for requests.
 pub struct Figures {
     pub hourly: Megajoules,
@@ -46,21 +35,31 @@ pub const NO_FIGURES: Figures = Figures {
     request: Cents(0),
 };
 
+// What 01's bounds can yield at most: all gas at its bound and every limit and schedule zero; the greatest rate.
+pub const MOST_FIGURES: Figures = Figures {
+    hourly: Megajoules(24 * MOST_HOUR.0),
+    twelve_hourly: Megajoules(24 * 12 * MOST_HOUR.0),
+    daily_receipt: Megajoules(24 * MOST_HOUR.0 + MOST_BACKHAUL.0),
+    daily_delivery: Megajoules(24 * MOST_HOUR.0 + MOST_BACKHAUL.0),
+    chargeable: MOST_CHARGEABLE,
+    variation: Cents(MOST_RATE.0 as u64 * MOST_GIGAJOULES.0 as u64 / 1_000),
+    request: Cents(MOST_RATE.0 as u64 / 1_000 * MOST_REQUESTS as u64),
+};
+
 impl Figures {
     // 3 for a figure larger than 01's bounds can yield, or a chargeable quantity that is not the greatest of the four overruns.
     pub fn check(self) -> Check
         ensures { λ r. ⌜ r ≡ figures-check self ⌝ }
     {
-        let greatest = greatest_of(self);
-        Check::Accepted
-            .keep(self.hourly.0 <= MOST_HOURLY.0, 3)
-            .keep(self.twelve_hourly.0 <= MOST_TWELVE_HOURLY.0, 3)
-            .keep(self.daily_receipt.0 <= MOST_DAILY.0, 3)
-            .keep(self.daily_delivery.0 <= MOST_DAILY.0, 3)
-            .keep(self.chargeable.0 <= MOST_CHARGEABLE.0, 3)
-            .keep(self.variation.0 <= MOST_VARIATION.0, 3)
-            .keep(self.request.0 <= MOST_REQUEST.0, 3)
-            .keep(self.chargeable.0 == greatest.0, 3)
+        let figures = numbers_of(self);
+        let most = numbers_of(MOST_FIGURES);
+        let mut found = Check::Accepted;
+        let mut place = 0;
+        while place < 7 {
+            found = found.keep(figures[place] <= most[place], 3);
+            place += 1;
+        }
+        found.keep(self.chargeable.0 == greatest_of(self).0, 3)
     }
 }
 
