@@ -8,15 +8,11 @@ use Rattle.units.specs.declared.refusal.Check.the-variants.{Accepted}
 use Rattle.lines.proofs.Sizes.{line-within, figure-within, figure-last}
 use Rattle.lines.proofs.Texts.{texts-most}
 use Rattle.month.specs.declared.account.AccountDay.{AccountDay}
-use Rattle.month.specs.Days.{days-check}
+use Rattle.month.specs.Days.{most-number, days-check}
 use Rattle.month.specs.Total.{sums}
 use Rattle.month.specs.Statement.{day-line, day-lines, total-line, statement-of, most-statement}
 use Rattle.month.proofs.Accepting.{FiguresKept, figures-kept, days-kept}
 use Rattle.month.proofs.Totalling.{summed-most}
-
--- any number of 32 bits
-abbrev pub most-number : ℕ
-most-number = 4_294_967_295
 
 day-most : (day : AccountDay) → day .number ≤ most-number → FiguresKept (day .figures) → length (day-line day) ≤ 91
 day-most day few K =

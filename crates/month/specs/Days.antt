@@ -11,6 +11,10 @@ use Rattle.month.specs.Figures.{no-figures, figures-check}
 abbrev pub most-days : ℕ
 most-days = 31
 
+-- and a day's number is any of 32 bits
+abbrev pub most-number : ℕ
+most-number = 4_294_967_295
+
 abbrev pub no-day : AccountDay
 no-day = record { number = 0; figures = no-figures }
 

@@ -15,11 +15,11 @@ use Rattle.units.proofs.Checks.{both-accepted, kept, accepts-both}
 use Rattle.month.specs.declared.account.Account.{Account}
 use Rattle.month.specs.declared.account.Taken.{Taken}
 use Rattle.month.specs.Each.{each}
-use Rattle.month.specs.Days.{most-days}
+use Rattle.month.specs.Days.{most-days, most-number}
 use Rattle.month.specs.Account.{no-days, day-at, account-check}
 use Rattle.month.proofs.Accepting.{each-refused}
 use Rattle.month.proofs.HandingIn.{after-each, after-sound, after-long, none-long, none-sound}
-use Rattle.monthlisting.specs.Rows.{most-number, row-day, account-after, in-turn, placed, row-check, rows-of}
+use Rattle.monthlisting.specs.Rows.{row-day, account-after, in-turn, placed, row-check, rows-of}
 use Rattle.monthlisting.specs.Private.{RowTaken, HandedIn}
 
 -- a placed refusal is a refusal, a placed acceptance an acceptance

@@ -9,8 +9,9 @@ use Rattle.units.specs.Refusals.{plain, _then_, keep}
 use Rattle.month.specs.declared.account.AccountDay.{AccountDay}
 use Rattle.month.specs.declared.account.Account.{Account}
 use Rattle.month.specs.declared.account.Taken.{Taken}
+use Rattle.month.specs.Days.{most-number}
 use Rattle.month.specs.Account.{take-in}
-use Rattle.monthlisting.specs.Rows.{most-number, row-number, row-day}
+use Rattle.monthlisting.specs.Rows.{row-number, row-day}
 use Rattle.monthlisting.specs.Private.{RowTaken}
 
 module _ (A : Account) (numbers : List ℕ) (row : ℕ) where

@@ -10,16 +10,13 @@ use Rattle.month.specs.declared.account.AccountDay.{AccountDay}
 use Rattle.month.specs.declared.account.Account.{Account}
 use Rattle.month.specs.Each.{each}
 use Rattle.month.specs.Figures.{figures-by}
+use Rattle.month.specs.Days.{most-number}
 use Rattle.month.specs.Account.{no-days, day-check, take-in}
 use Rattle.month.specs.Statement.{statement}
 
 -- a day's number, then its seven figures
 abbrev pub row-long : ℕ
 row-long = 8
-
--- any number of 32 bits
-abbrev pub most-number : ℕ
-most-number = 4_294_967_295
 
 abbrev pub row-number : List ℕ → ℕ → ℕ
 row-number numbers row = col numbers (row * row-long)

@@ -9,7 +9,8 @@ use units::Megajoules;
 use units::Refusal;
 ghost use mathlib.Core.Path.{_≡_};
 ghost use Prim.Native.Nat.{_≤_, _<_};
-ghost use Rattle.monthlisting.specs.Rows.{most-number, row-number, row-day, rows-of};
+ghost use Rattle.month.specs.Days.{most-number};
+ghost use Rattle.monthlisting.specs.Rows.{row-number, row-day, rows-of};
 ghost use Rattle.monthlisting.specs.Private.{RowTaken, HandedIn};
 
 // A day's number, then its seven figures.
