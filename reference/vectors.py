@@ -109,7 +109,6 @@ def main():
         for name, content in made(program).items():
             stored = CRATES.joinpath(program.crate, name)
             if not sys.argv[1:]:
-                stored.parent.mkdir(exist_ok=True)
                 stored.write_bytes(content)
             elif stored.read_bytes() != content:
                 sys.exit(f"crates/{program.crate}/{name} is not what reference/vectors.py makes")

@@ -38,15 +38,17 @@ class MonthVectors(CasesTest, unittest.TestCase):
                     self.assertIn(room, range(MOST_ROOM + 1))
 
     def test_room(self):
-        """Where a statement fits, the block is as long or longer; where it does not, it is empty or
-        not."""
+        """Where a statement fits, the block is just as long, or a byte longer; where it does not, it
+        is empty, or a byte short."""
         for routine, cases in self.cases:
             if 7 in REFUSALS[routine.name]:
                 lent = [(lent_in(routine, case)[0][1], case, number) for case, number in cases]
                 fits = {room - len(routine.answer(*case)[1]) for room, case, number in lent if number == 0}
-                short = {room for room, _, number in lent if number == 7}
+                short = [(room, case) for room, case, number in lent if number == 7]
+                lacking = {len(routine.answer(*case[:-1], None)[1]) - room for room, case in short}
                 self.assertEqual({0, 1}, fits, routine.name)
-                self.assertTrue(0 in short and len(short) > 1, routine.name)
+                self.assertIn(0, [room for room, _ in short], routine.name)
+                self.assertIn(1, lacking, routine.name)
 
     def test_accounts(self):
         """None, some and all of the days, and counts that no account has."""

@@ -1,5 +1,5 @@
 -- For every input, what a caller reads out of each function's number is the answer of the routine that it calls: the routine's tests
--- decide that answer, its places lie within a full day's file, among 64 rows, 31 days or 24 hours, and its figures are bounded.
+-- decide that answer, its places lie within a full day's file, among 64 rows, 32 days or 24 hours, and its figures are bounded.
 use mathlib.Core.Path.{_≡_, refl, _∙_}
 use mathlib.Core.List.{List}
 use Prim.Native.Nat.{ℕ, _≤_}
@@ -17,7 +17,7 @@ use Rattle.rounds.specs.Answer.{round-answer, round-verdict}
 use Rattle.rounds.proofs.Decided.{round-decided, round-placed}
 use Rattle.lines.specs.Answer.{listing-answer, listing-check, listing-verdict}
 use Rattle.lines.proofs.Decided.{listed-placed}
-use Rattle.monthlisting.specs.Rows.{rows-check, month-listing}
+use Rattle.monthlisting.specs.Rows.{month-check, month-listing}
 use Rattle.monthlisting.proofs.Decided.{month-decided, month-placed}
 use Rattle.monthlisting.proofs.Sizes as month-sizes
 use Rattle.daytable.specs.Table.{Table}
@@ -107,7 +107,7 @@ list-points-reads file L =
     listing-reads L (file-placed file) (λ accepted. omega (arith, points-sizes.text-most file accepted)) (points-decided file (L .answers))
 
 pub month-statement-reads : (numbers : List ℕ) {lent after : List ℕ} {packed : ℕ}
-    (L : ListingPacked (rows-check numbers) (month-listing numbers) lent after packed)
+    (L : ListingPacked (month-check numbers) (month-listing numbers) lent after packed)
     → Unpacks packed (listing-verdict (L .listing)) (λ size. size)
 month-statement-reads numbers L =
     listing-reads L (month-placed (omega arith) numbers) (λ accepted. omega (arith, month-sizes.text-most numbers accepted))

@@ -6,7 +6,7 @@ ghost use Rattle.dayruns.specs.Walk.{file-check};
 ghost use Rattle.sharelisting.specs.SharesText.{shares-listing};
 ghost use Rattle.chargelisting.specs.ChargesText.{charges-check, charges-listing};
 ghost use Rattle.pointlisting.specs.PointsText.{points-listing};
-ghost use Rattle.monthlisting.specs.Rows.{rows-check, month-listing};
+ghost use Rattle.monthlisting.specs.Rows.{month-check, month-listing};
 ghost use Rattle.cormcushion.specs.Lent.{ListingPacked};
 
 // The listing of a day's shares.
@@ -40,7 +40,7 @@ pub extern "C" fn cormcushion_list_points(file: &[u8], text: &mut [u8]) -> u64
 // The statement of a month, from its days as rows of eight numbers.
 #[no_mangle]
 pub extern "C" fn cormcushion_month_statement(numbers: &[u64], text: &mut [u8]) -> u64
-    ensures { λ r. ⌜ ListingPacked (rows-check (now (numbers .entry))) (month-listing (now (numbers .entry)))
+    ensures { λ r. ⌜ ListingPacked (month-check (now (numbers .entry))) (month-listing (now (numbers .entry)))
         (now (text .entry)) (now (text .exit)) r ⌝ }
 {
     of_listing(monthlisting::list_month(numbers, text))

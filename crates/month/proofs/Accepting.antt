@@ -23,7 +23,7 @@ use Rattle.overruns.proofs.Promises.{day-kept}
 use Rattle.month.specs.declared.figures.Figures.{Figures}
 use Rattle.month.specs.declared.account.AccountDay.{AccountDay}
 use Rattle.month.specs.Each.{each}
-use Rattle.month.specs.Figures.{figure, most-figures, figures-check}
+use Rattle.month.specs.Figures.{figure, figure-bounds, figures-check}
 use Rattle.month.specs.Days.{most-days, later, days-check, next-check}
 
 -- ---- each of n rows
@@ -50,7 +50,7 @@ each-refused test (suc n) row l before e =
 
 -- ---- a day's figures
 pub record FiguresKept (F : Figures) : Type 0 where
-  pub within : (place : ℕ) → place < 7 → figure F place ≤ col most-figures place
+  pub within : (place : ℕ) → place < 7 → figure F place ≤ col figure-bounds place
   pub greatest : F .chargeable .0 ≡ greatest (F .hourly .0) (F .«twelve_hourly» .0) (F .«daily_receipt» .0) (F .«daily_delivery» .0)
 
 pub figures-kept : (F : Figures) → figures-check F ≡ Accepted → FiguresKept F

@@ -15,9 +15,9 @@ use Rattle.month.specs.declared.account.Taken.{Taken}
 use Rattle.month.specs.declared.account.Totalled.{Totalled}
 use Rattle.month.specs.declared.account.Closed.{Closed}
 use Rattle.month.specs.Each.{each}
-use Rattle.month.specs.Figures.{no-figures, figures-check}
+use Rattle.month.specs.Figures.{seven-zeros, figures-check}
 use Rattle.month.specs.Days.{later, days-check, next-check}
-use Rattle.month.specs.Account.{day-at, account-check, day-check, take-in}
+use Rattle.month.specs.Account.{day-at, account-check, taking-check, take-in}
 use Rattle.month.specs.Total.{account-sums, total-answer, total-verdict, total-up}
 use Rattle.month.specs.Statement.{statement, ClosingAnswered}
 
@@ -48,15 +48,16 @@ unfolding next-check
 next-numbered n days day =
     kept-by _ 3 tt tt and figures-numbered (day .figures) and days-numbered n days and later-numbered days n (day .number)
 
-pub figures-decided : (F : Figures) {found : Check} → found ≡ figures-check F → Decided (figures-check F) tt tt (of-check found)
-figures-decided F = checked (figures-numbered F)
+pub seven-decided : (F : Figures) {found : Check} → found ≡ figures-check F → Decided (figures-check F) tt tt (of-check found)
+seven-decided F = checked (figures-numbered F)
 
 module _ (A : Account) where
-  pub day-decided : (day : AccountDay) {taken : Taken} → taken ≡ take-in A day → Decided (day-check A day) tt tt (of-check (taken .found))
-  day-decided day is = checked (next-numbered (A .count) (day-at A) day) (ap (λ taken. taken .found) is)
+  pub taking-decided : (day : AccountDay) {taken : Taken} → taken ≡ take-in A day
+      → Decided (taking-check A day) tt tt (of-check (taken .found))
+  taking-decided day is = checked (next-numbered (A .count) (day-at A) day) (ap (λ taken. taken .found) is)
 
   pub total-decided : {totalled : Totalled} → totalled ≡ total-up A
-      → Decided (account-check A) (account-sums A) no-figures (total-verdict (totalled .total))
+      → Decided (account-check A) (account-sums A) seven-zeros (total-verdict (totalled .total))
   total-decided is =
       decided total-answer total-verdict refl (λ refusal. refl) (days-numbered (A .count) (day-at A)) (ap (λ totalled. totalled .total) is)
 

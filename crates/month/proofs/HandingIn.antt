@@ -19,9 +19,9 @@ use Rattle.month.specs.declared.account.Total.{Total}
 use Rattle.month.specs.Each.{each}
 use Rattle.month.specs.Figures.{figures-check}
 use Rattle.month.specs.Days.{most-days, no-day, later, days-check, next-check}
-use Rattle.month.specs.Account.{no-days, day-at, account-check, day-check, with-day, take-in}
+use Rattle.month.specs.Account.{no-days, day-at, account-check, taking-check, with-day, take-in}
 use Rattle.month.specs.Total.{sums, account-sums, total-up}
-use Rattle.month.specs.Statement.{day-line, day-lines, total-line, statement-of, statement}
+use Rattle.month.specs.Statement.{statement-line, statement-lines, total-line, statement-of, statement}
 use Rattle.month.specs.Promise.{in-row, finding, joining, accepted-after, findings-after, handed-in, answers, MonthKept}
 use Rattle.month.proofs.Accepting.{days-kept, accepts-days, NextKept, next-kept}
 use Rattle.month.proofs.Totalling.{sums-same}
@@ -33,7 +33,7 @@ later-same f g zero all number = refl
 later-same f g (suc before) all number = ap (λ day. keep (ltb (day .number) number) 5) (all before (lt-suc-self before))
 
 -- ---- an accepted day makes a sound account of one
-module _ (A : Account) (day : AccountDay) (long : length (A .days) ≡ most-days) (taken : day-check A day ≡ Accepted) where
+module _ (A : Account) (day : AccountDay) (long : length (A .days) ≡ most-days) (taken : taking-check A day ≡ Accepted) where
   abbrev after : Account
   after = with-day A day
 
@@ -95,7 +95,7 @@ module _ (A : Account) (accepted : List AccountDay) (H : Holding A accepted) whe
   row-same : (row : ℕ) → row < A .count → day-at A row ≡ in-row accepted row
   row-same row l = sym (getD-take (A .count) (A .days) row no-day l) ∙ ap (λ days. getD days row no-day) (H .holds)
 
-  finding-same : (day : AccountDay) → day-check A day ≡ finding accepted day
+  finding-same : (day : AccountDay) → taking-check A day ≡ finding accepted day
   unfolding next-check finding
   finding-same day =
       rw (H .sound, then-accepted, later-same (day-at A) (in-row accepted) (A .count) row-same (day .number), many)
@@ -103,7 +103,7 @@ module _ (A : Account) (accepted : List AccountDay) (H : Holding A accepted) whe
   holding-next : (day : AccountDay) → Holding (take-in A day .account) (joining accepted day)
   holding-next day = rw (finding-same day) (by (finding accepted day) (finding-same day))
     where
-      by : (found : Check) → day-check A day ≡ found
+      by : (found : Check) → taking-check A day ≡ found
           → Holding (accepted-or found (with-day A day) A) (accepted-or found (accepted ++ (day ∷ [])) accepted)
       by Accepted e =
           record {
@@ -121,9 +121,9 @@ module _ (A : Account) (accepted : List AccountDay) (H : Holding A accepted) whe
 
   statement-held : statement A ≡ statement-of (length accepted) (in-row accepted)
   statement-held =
-      ap (λ figures. day-lines (A .count) (day-at A) ++ total-line figures) sums-held
+      ap (λ figures. statement-lines (A .count) (day-at A) ++ total-line figures) sums-held
       ∙ ap (λ lines. lines ++ total-line (sums (length accepted) (in-row accepted)))
-      (joined-same (A .count) _ _ (λ row l. ap day-line (row-same row l)) ∙ ap (λ n. day-lines n (in-row accepted)) many)
+      (joined-same (A .count) _ _ (λ row l. ap statement-line (row-same row l)) ∙ ap (λ n. statement-lines n (in-row accepted)) many)
 
 -- ---- day after day
 holding-after : (A : Account) (accepted days : List AccountDay) → Holding A accepted

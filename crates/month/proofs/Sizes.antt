@@ -8,13 +8,13 @@ use Rattle.units.specs.declared.refusal.Check.the-variants.{Accepted}
 use Rattle.lines.proofs.Sizes.{line-within, figure-within, figure-last}
 use Rattle.lines.proofs.Texts.{texts-most}
 use Rattle.month.specs.declared.account.AccountDay.{AccountDay}
-use Rattle.month.specs.Days.{most-number, days-check}
+use Rattle.month.specs.Days.{most-day-number, days-check}
 use Rattle.month.specs.Total.{sums}
-use Rattle.month.specs.Statement.{day-line, day-lines, total-line, statement-of, most-statement}
+use Rattle.month.specs.Statement.{statement-line, statement-lines, total-line, statement-of, most-statement}
 use Rattle.month.proofs.Accepting.{FiguresKept, figures-kept, days-kept}
 use Rattle.month.proofs.Totalling.{summed-most}
 
-day-most : (day : AccountDay) → day .number ≤ most-number → FiguresKept (day .figures) → length (day-line day) ≤ 91
+day-most : (day : AccountDay) → day .number ≤ most-day-number → FiguresKept (day .figures) → length (statement-line day) ≤ 91
 day-most day few K =
     let most = K .within in
     figure-within 9 _ _ (omega (arith, few))
@@ -36,14 +36,14 @@ total-most n days accepted =
     (figure-within 11 _ _ (omega (arith, most 4 (omega arith)))
     (figure-within 12 _ _ (omega (arith, most 5 (omega arith))) (figure-last 9 _ (omega (arith, most 6 (omega arith))))))))))
 
-pub statement-most : (n : ℕ) (days : ℕ → AccountDay) → ((row : ℕ) → row < n → days row .number ≤ most-number)
+pub statement-most : (n : ℕ) (days : ℕ → AccountDay) → ((row : ℕ) → row < n → days row .number ≤ most-day-number)
     → days-check n days ≡ Accepted → length (statement-of n days) ≤ most-statement
 statement-most n days few accepted =
     let K = days-kept n days accepted in
     omega (
       arith,
-      length-append (day-lines n days) (total-line (sums n days)),
-      texts-most (λ row. day-line (days row)) 91 n (λ row l. day-most (days row) (few row l) (figures-kept _ (K .figures row l))),
+      length-append (statement-lines n days) (total-line (sums n days)),
+      texts-most (λ row. statement-line (days row)) 91 n (λ row l. day-most (days row) (few row l) (figures-kept _ (K .figures row l))),
       total-most n days accepted,
       K .few,
     )

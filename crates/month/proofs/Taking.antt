@@ -6,9 +6,9 @@ use Rattle.units.specs.declared.refusal.Check.the-variants.{Accepted, Refused}
 use Rattle.month.specs.declared.account.AccountDay.{AccountDay}
 use Rattle.month.specs.declared.account.Account.{Account}
 use Rattle.month.specs.declared.account.Taken.{Taken}
-use Rattle.month.specs.Account.{day-check, with-day, take-in}
+use Rattle.month.specs.Account.{taking-check, with-day, take-in}
 
-module _ (A : Account) (day : AccountDay) {found : Check} (is : found ≡ day-check A day) where
+module _ (A : Account) (day : AccountDay) {found : Check} (is : found ≡ taking-check A day) where
   pub day-left : {refusal : Refusal} → found ≡ Refused refusal → _≡_ {A = Taken} (record { account = A; found = found }) (take-in A day)
   day-left e = let refused = sym is ∙ e in rw (e, refused)
 

@@ -16,7 +16,7 @@ use Rattle.month.specs.declared.account.AccountDay.{AccountDay}
 use Rattle.month.specs.declared.account.Account.{Account}
 use Rattle.month.specs.declared.account.Total.{Total}
 use Rattle.month.specs.declared.account.Totalled.{Totalled}
-use Rattle.month.specs.Figures.{figure, figures-by, no-figures, most-figures}
+use Rattle.month.specs.Figures.{figure, figures-by, seven-zeros, figure-bounds}
 use Rattle.month.specs.Days.{most-days, no-day, days-check}
 use Rattle.month.specs.Account.{day-at, account-check}
 use Rattle.month.specs.Total.{sums, account-sums, total-up}
@@ -51,13 +51,13 @@ module _ (days : ℕ → AccountDay) where
       same (summed n) _ (λ place l. sum-cong n _ _ (λ row m. ap (λ day. figure (day .figures) place) (all row m)))
 
   -- of an accepted account
-  pub summed-most : (n : ℕ) → days-check n days ≡ Accepted → (place : ℕ) → place < 7 → summed n place ≤ most-days * col most-figures place
+  pub summed-most : (n : ℕ) → days-check n days ≡ Accepted → (place : ℕ) → place < 7 → summed n place ≤ most-days * col figure-bounds place
   summed-most n accepted place l =
       let K = days-kept n days accepted in
       le-trans (sum-bound n _ _ (λ row m. figures-kept _ (K .figures row m) .within place l)) (mul-le-mul-right _ (K .few))
 
 -- no figure has more than twelve digits
-most-low : (place : ℕ) → place < 7 → col most-figures place ≤ 100_000_000_000
+most-low : (place : ℕ) → place < 7 → col figure-bounds place ≤ 100_000_000_000
 most-low = at-each _ (omega arith) (omega arith) (omega arith) (omega arith) (omega arith) (omega arith) (omega arith)
 
 -- ---- the account taken off day by day, as an invariant: what is added, and what is left, make the total
@@ -67,7 +67,7 @@ pub record TakingOff (A left : Account) (added : Figures) : Type 0 where
   pub adds : (place : ℕ) → place < 7 → figure added place + summed (day-at A) (left .count) place ≡ summed (day-at A) (A .count) place
 
 module _ (A : Account) where
-  pub off-none : TakingOff A A no-figures
+  pub off-none : TakingOff A A seven-zeros
   off-none =
       record { days = refl; few = le-refl (A .count); adds = λ place l. rw (figure-by (λ place. 0) place l) (omega arith) }
 

@@ -12,7 +12,7 @@ use Rattle.lines.specs.Line.{line}
 use Rattle.month.specs.declared.account.AccountDay.{AccountDay}
 use Rattle.month.specs.declared.account.Account.{Account}
 use Rattle.month.specs.Each.{each}
-use Rattle.month.specs.Figures.{figures-by, most-figures, figures-check}
+use Rattle.month.specs.Figures.{figures-by, figure-bounds, figures-check}
 use Rattle.month.specs.Days.{later, days-check, next-check}
 use Rattle.month.specs.Account.{no-days, take-in}
 use Rattle.month.specs.Total.{account-sums}
@@ -55,7 +55,7 @@ no-days-stated = refl
 
 -- every figure at its bound, on 31 days whose numbers have ten digits
 abbrev longest-day : ℕ → AccountDay
-longest-day row = day-of (4_000_000_000 + row) most-figures
+longest-day row = day-of (4_000_000_000 + row) figure-bounds
 
 pub longest-accepted : days-check 31 longest-day ≡ Accepted
 unfolding figures-check days-check each later _then_ keep

@@ -18,11 +18,11 @@ day-at A row = getD (A .days) row no-day
 abbrev pub account-check : Account → Check
 account-check A = days-check (A .count) (day-at A)
 
-abbrev pub day-check : Account → AccountDay → Check
-day-check A day = next-check (A .count) (day-at A) day
+abbrev pub taking-check : Account → AccountDay → Check
+taking-check A day = next-check (A .count) (day-at A) day
 
 abbrev pub with-day : Account → AccountDay → Account
 with-day A day = record { days = set (A .days) (A .count) day; count = A .count + 1 }
 
 abbrev pub take-in : Account → AccountDay → Taken
-take-in A day = record { account = accepted-or (day-check A day) (with-day A day) A; found = day-check A day }
+take-in A day = record { account = accepted-or (taking-check A day) (with-day A day) A; found = taking-check A day }

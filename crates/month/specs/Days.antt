@@ -5,18 +5,18 @@ use Rattle.units.specs.declared.refusal.Check.{Check}
 use Rattle.units.specs.Refusals.{_then_, keep}
 use Rattle.month.specs.declared.account.AccountDay.{AccountDay}
 use Rattle.month.specs.Each.{each}
-use Rattle.month.specs.Figures.{no-figures, figures-check}
+use Rattle.month.specs.Figures.{seven-zeros, figures-check}
 
 -- a month has at most so many days
 abbrev pub most-days : ℕ
 most-days = 31
 
 -- and a day's number is any of 32 bits
-abbrev pub most-number : ℕ
-most-number = 4_294_967_295
+abbrev pub most-day-number : ℕ
+most-day-number = 4_294_967_295
 
 abbrev pub no-day : AccountDay
-no-day = record { number = 0; figures = no-figures }
+no-day = record { number = 0; figures = seven-zeros }
 
 -- a day after the first n, not later than the last of them, is 5
 unfoldable pub later : (ℕ → AccountDay) → ℕ → ℕ → Check

@@ -40,16 +40,16 @@ figures-by f = record {
   request = record { 0 = f 6 };
 }
 
-abbrev pub no-figures : Figures
-no-figures = figures-by (λ place. 0)
+abbrev pub seven-zeros : Figures
+seven-zeros = figures-by (λ place. 0)
 
 -- the most that 01's bounds can yield
-abbrev pub most-figures : List ℕ
-most-figures =
+abbrev pub figure-bounds : List ℕ
+figure-bounds =
     most-hourly ∷ most-twelve-hourly ∷ most-daily ∷ most-daily ∷ most-chargeable ∷ most-variation ∷ most-request ∷ []
 
 -- a figure larger than that, or a chargeable quantity that isn't the greatest of the four, is 3
 unfoldable pub figures-check : Figures → Check
 figures-check F =
-    each 7 (λ place. keep (leb (figure F place) (col most-figures place)) 3)
+    each 7 (λ place. keep (leb (figure F place) (col figure-bounds place)) 3)
     then keep (eqb (F .chargeable .0) (greatest (F .hourly .0) (F .«twelve_hourly» .0) (F .«daily_receipt» .0) (F .«daily_delivery» .0))) 3

@@ -19,18 +19,18 @@ use Rattle.month.specs.Total.{sums}
 abbrev pub total-word : List ℕ
 total-word = 84 ∷ 79 ∷ 84 ∷ 65 ∷ 76 ∷ []
 
-abbrev pub day-line : AccountDay → List ℕ
-day-line day = line (decimals (day .number ∷ figure-list (day .figures)))
+abbrev pub statement-line : AccountDay → List ℕ
+statement-line day = line (decimals (day .number ∷ figure-list (day .figures)))
 
 abbrev pub total-line : Figures → List ℕ
 total-line figures = line (total-word ∷ decimals (figure-list figures))
 
-abbrev pub day-lines : ℕ → (ℕ → AccountDay) → List ℕ
-day-lines n days = joined n (λ row. day-line (days row))
+abbrev pub statement-lines : ℕ → (ℕ → AccountDay) → List ℕ
+statement-lines n days = joined n (λ row. statement-line (days row))
 
 -- of the first n days
 abbrev pub statement-of : ℕ → (ℕ → AccountDay) → List ℕ
-statement-of n days = day-lines n days ++ total-line (sums n days)
+statement-of n days = statement-lines n days ++ total-line (sums n days)
 
 abbrev pub statement : Account → List ℕ
 statement A = statement-of (A .count) (day-at A)

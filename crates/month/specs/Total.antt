@@ -8,7 +8,7 @@ use Rattle.month.specs.declared.account.AccountDay.{AccountDay}
 use Rattle.month.specs.declared.account.Account.{Account}
 use Rattle.month.specs.declared.account.Total.{Total}
 use Rattle.month.specs.declared.account.Totalled.{Totalled}
-use Rattle.month.specs.Figures.{figure, figures-by, no-figures}
+use Rattle.month.specs.Figures.{figure, figures-by, seven-zeros}
 use Rattle.month.specs.Account.{day-at, account-check}
 
 -- each of the seven, summed over the first n days
@@ -25,7 +25,7 @@ total-answer (Check.Refused refusal) figures = Total.Refused refusal
 -- 01's number, place and figures of each case
 abbrev pub total-verdict : Total → Verdict Figures
 total-verdict (Total.Sums figures) = accepting figures
-total-verdict (Total.Refused refusal) = refusing refusal no-figures
+total-verdict (Total.Refused refusal) = refusing refusal seven-zeros
 
 abbrev pub total-up : Account → Totalled
 total-up A = record { account = A; total = total-answer (account-check A) (account-sums A) }

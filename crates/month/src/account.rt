@@ -1,6 +1,6 @@
 // The account of a month, by value: each method takes it and hands it back.
 use crate::examine::examine_account;
-use crate::examine::examine_day;
+use crate::examine::examine_next;
 use crate::figures::Figures;
 use crate::figures::NO_FIGURES;
 use crate::figures::plus;
@@ -72,7 +72,7 @@ impl Account {
     pub fn take_in(mut self, day: AccountDay) -> Taken
         ensures { λ r. ⌜ r ≡ take-in self day ⌝ }
     {
-        let found = examine_day(self, day);
+        let found = examine_next(self, day);
         match found {
             Check::Refused(_) => Taken {
                 account: self,

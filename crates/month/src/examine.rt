@@ -9,7 +9,7 @@ ghost use Prim.Native.Nat.{_≤_};
 ghost use Rattle.month.specs.Each.{each};
 ghost use Rattle.month.specs.Days.{most-days, later};
 ghost use Rattle.month.specs.Figures.{figures-check};
-ghost use Rattle.month.specs.Account.{day-at, account-check, day-check};
+ghost use Rattle.month.specs.Account.{day-at, account-check, taking-check};
 
 // An account may hold anything: its count, its days' figures, then that their numbers rise.
 pub fn examine_account(account: Account) -> Check
@@ -22,8 +22,8 @@ pub fn examine_account(account: Account) -> Check
 }
 
 // A 32nd day, its figures, the account; then that it is later than the last.
-pub fn examine_day(account: Account, day: AccountDay) -> Check
-    ensures { λ r. ⌜ r ≡ day-check account day ⌝ }
+pub fn examine_next(account: Account, day: AccountDay) -> Check
+    ensures { λ r. ⌜ r ≡ taking-check account day ⌝ }
 {
     let count = account.count;
     if MOST_DAYS <= count {

@@ -36,7 +36,7 @@ pub const NO_FIGURES: Figures = Figures {
 };
 
 // What 01's bounds can yield at most: all gas at its bound and every limit and schedule zero; the greatest rate.
-pub const MOST_FIGURES: Figures = Figures {
+pub const FIGURE_BOUNDS: Figures = Figures {
     hourly: Megajoules(24 * MOST_HOUR.0),
     twelve_hourly: Megajoules(24 * 12 * MOST_HOUR.0),
     daily_receipt: Megajoules(24 * MOST_HOUR.0 + MOST_BACKHAUL.0),
@@ -52,7 +52,7 @@ impl Figures {
         ensures { λ r. ⌜ r ≡ figures-check self ⌝ }
     {
         let figures = numbers_of(self);
-        let most = numbers_of(MOST_FIGURES);
+        let most = numbers_of(FIGURE_BOUNDS);
         let mut found = Check::Accepted;
         let mut place = 0;
         while place < 7 {
@@ -90,7 +90,7 @@ pub fn plus(one: Figures, other: Figures) -> Figures
     }
 }
 
-// As bare numbers, for a line.
+// As bare numbers, each at its place.
 pub fn numbers_of(figures: Figures) -> [u64; 7]
     ensures { λ r. ⌜ r ≡ figure-list figures ⌝ }
 {

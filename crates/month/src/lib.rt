@@ -12,5 +12,4 @@ pub use account::Taken;
 pub use account::Total;
 pub use account::Totalled;
 pub use figures::Figures;
-pub use figures::MOST_FIGURES;
 pub use statement::MOST_STATEMENT;

@@ -18,7 +18,7 @@ ghost use Rattle.lines.specs.Answer.{ListingAnswered};
 ghost use Rattle.month.specs.Days.{most-days};
 ghost use Rattle.month.specs.Account.{day-at};
 ghost use Rattle.month.specs.Total.{account-sums};
-ghost use Rattle.month.specs.Statement.{day-line, day-lines, total-line, statement};
+ghost use Rattle.month.specs.Statement.{statement-line, statement-lines, total-line, statement};
 
 // No statement is longer: 91 bytes for a day's line, 95 for that of the total.
 pub const MOST_STATEMENT: usize = MOST_DAYS * 91 + 95;
@@ -49,7 +49,7 @@ fn put_statement(account: Account, sums: Figures, text: &mut [u8], at: usize) ->
 // A line for each day.
 fn put_days(account: Account, text: &mut [u8], at: usize) -> usize
     requires { ⌜ (account .count ≤ most-days) × (at ≤ length (now text)) ⌝ }
-    ensures { λ r. ⌜ (Laid (day-lines (account .count) (day-at account)) (now (text .entry)) at r (now (text .exit)))
+    ensures { λ r. ⌜ (Laid (statement-lines (account .count) (day-at account)) (now (text .entry)) at r (now (text .exit)))
         × (r ≤ 65536) ⌝ }
 {
     let mut row = 0;
@@ -64,7 +64,7 @@ fn put_days(account: Account, text: &mut [u8], at: usize) -> usize
 // A day's number, then its seven figures.
 fn put_day(day: AccountDay, text: &mut [u8], at: usize) -> usize
     requires { ⌜ at ≤ length (now text) + 65536 ⌝ }
-    ensures { λ r. ⌜ (Laid (day-line day) (now (text .entry)) at r (now (text .exit))) × (r ≤ 2068) ⌝ }
+    ensures { λ r. ⌜ (Laid (statement-line day) (now (text .entry)) at r (now (text .exit))) × (r ≤ 2068) ⌝ }
 {
     let size = put_figure(day.number as u64, text, at);
     size + put_line(&numbers_of(day.figures), text, at + size)

@@ -18,7 +18,7 @@ use Rattle.month.specs.Days.{most-days}
 use Rattle.month.specs.Account.{day-at}
 use Rattle.month.proofs.Accepting.{days-kept}
 use Rattle.month.proofs.Decided.{each-numbered, next-numbered}
-use Rattle.monthlisting.specs.Rows.{row-day, account-after, in-turn, placed, row-check, rows-of, rows-check, month-listing}
+use Rattle.monthlisting.specs.Rows.{row-day, account-after, in-turn, placed, month-row-check, days-in, month-check, month-listing}
 use Rattle.monthlisting.proofs.Handing.{after-rows}
 
 -- a row in place of a place keeps the number
@@ -27,18 +27,18 @@ placed-numbered row Accepted N = N
 placed-numbered row (Refused x) N =
     λ refusal e. let same = refusal-is e in rw (← same) (record { least = N x refl .least; most = N x refl .most })
 
-rows-numbered : (numbers : List ℕ) → AllNumbered (rows-check numbers)
-unfolding rows-check
+rows-numbered : (numbers : List ℕ) → AllNumbered (month-check numbers)
+unfolding month-check
 rows-numbered numbers =
     none
     and kept-by _ 9 tt tt
-    and each-numbered (row-check numbers)
+    and each-numbered (month-row-check numbers)
     (λ row. placed-numbered row _ (kept-by _ 3 tt tt and next-numbered _ (day-at (account-after numbers row)) (row-day numbers row)))
-    (rows-of numbers)
+    (days-in numbers)
 
 pub month-decided : (numbers : List ℕ) {lent after : List ℕ} {listing : Listing}
-    → ListingAnswered (rows-check numbers) (month-listing numbers) lent after listing
-    → Decided (listing-check (rows-check numbers) (month-listing numbers) (length lent))
+    → ListingAnswered (month-check numbers) (month-listing numbers) lent after listing
+    → Decided (listing-check (month-check numbers) (month-listing numbers) (length lent))
     (length (month-listing numbers)) 0 (listing-verdict listing)
 month-decided numbers = listed-decided (rows-numbered numbers)
 
@@ -48,7 +48,7 @@ module _ {most : ℕ} (h : most-days ≤ most) where
   placed-there row Accepted l = nowhere
   placed-there row (Refused x) l = λ refusal e. let same = refusal-is e in rw (← same) l
 
-  rows-placed : (numbers : List ℕ) (n : ℕ) → PlacedTo most (each n (row-check numbers))
+  rows-placed : (numbers : List ℕ) (n : ℕ) → PlacedTo most (each n (month-row-check numbers))
   unfolding each
   rows-placed numbers zero = nowhere
   rows-placed numbers (suc n) =
@@ -58,6 +58,6 @@ module _ {most : ℕ} (h : most-days ≤ most) where
       let A = account-after numbers n in
       placed-there n (in-turn numbers A n) (omega (arith, S .many, days-kept _ (day-at A) (S .accepted) .few, h)))
 
-  pub month-placed : (numbers : List ℕ) → PlacedTo most (rows-check numbers)
-  unfolding rows-check
-  month-placed numbers = nowhere then-if plainly _ 9 then-if (λ accepted. rows-placed numbers (rows-of numbers))
+  pub month-placed : (numbers : List ℕ) → PlacedTo most (month-check numbers)
+  unfolding month-check
+  month-placed numbers = nowhere then-if plainly _ 9 then-if (λ accepted. rows-placed numbers (days-in numbers))

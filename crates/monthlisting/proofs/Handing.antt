@@ -15,11 +15,11 @@ use Rattle.units.proofs.Checks.{both-accepted, kept, accepts-both}
 use Rattle.month.specs.declared.account.Account.{Account}
 use Rattle.month.specs.declared.account.Taken.{Taken}
 use Rattle.month.specs.Each.{each}
-use Rattle.month.specs.Days.{most-days, most-number}
+use Rattle.month.specs.Days.{most-days, most-day-number}
 use Rattle.month.specs.Account.{no-days, day-at, account-check}
 use Rattle.month.proofs.Accepting.{each-refused}
 use Rattle.month.proofs.HandingIn.{after-each, after-sound, after-long, none-long, none-sound}
-use Rattle.monthlisting.specs.Rows.{row-day, account-after, in-turn, placed, row-check, rows-of}
+use Rattle.monthlisting.specs.Rows.{row-day, account-after, in-turn, placed, month-row-check, days-in}
 use Rattle.monthlisting.specs.Private.{RowTaken, HandedIn}
 
 -- a placed refusal is a refusal, a placed acceptance an acceptance
@@ -30,17 +30,17 @@ accepted-there row (Refused refusal) e = cc
 module _ (numbers : List ℕ) where
   -- ---- the loop
   pub record Handing (row : ℕ) (A : Account) : Type 0 where
-    pub inside : row ≤ rows-of numbers
+    pub inside : row ≤ days-in numbers
     pub after : A ≡ account-after numbers row
-    pub accepted : each row (row-check numbers) ≡ Accepted
+    pub accepted : each row (month-row-check numbers) ≡ Accepted
 
   pub handing-none : {A : Account} → A ≡ no-days → Handing 0 A
   unfolding account-after each
   handing-none e = record { inside = omega arith; after = e; accepted = refl }
 
   module _ {row : ℕ} {A : Account} (H : Handing row A) where
-    module _ (l : row < rows-of numbers) {taken : Taken} (T : RowTaken A numbers row taken) where
-      row-found : row-check numbers row ≡ placed row (taken .found)
+    module _ (l : row < days-in numbers) {taken : Taken} (T : RowTaken A numbers row taken) where
+      row-found : month-row-check numbers row ≡ placed row (taken .found)
       row-found = ap (λ before. placed row (in-turn numbers before row)) (sym (H .after)) ∙ ap (placed row) (sym (T .found))
 
       pub handing-next : taken .found ≡ Accepted → Handing (row + 1) (taken .account)
@@ -55,12 +55,12 @@ module _ (numbers : List ℕ) where
       pub handing-stops : {refusal there : Refusal} → taken .found ≡ Refused refusal → there ≡ at-row (refusal .number) row
           → HandedIn numbers (record { account = A; found = Refused there })
       handing-stops e is =
-          let refused = each-refused (row-check numbers) (rows-of numbers) row l (H .accepted) (row-found ∙ ap (placed row) e) in
+          let refused = each-refused (month-row-check numbers) (days-in numbers) row l (H .accepted) (row-found ∙ ap (placed row) e) in
           record { found = ap Refused is ∙ sym refused; account = λ none. cc }
 
-    pub handing-all : rows-of numbers ≤ row → HandedIn numbers (record { account = A; found = Accepted })
+    pub handing-all : days-in numbers ≤ row → HandedIn numbers (record { account = A; found = Accepted })
     handing-all l =
-        let all : row ≡ rows-of numbers = le-antisymm (H .inside) l in
+        let all : row ≡ days-in numbers = le-antisymm (H .inside) l in
         record { found = rw all at (sym (H .accepted)); account = λ none. rw all at (H .after) }
 
   -- ---- the account after accepted rows
@@ -68,9 +68,9 @@ module _ (numbers : List ℕ) where
     pub many : A .count ≡ n
     pub long : length (A .days) ≡ most-days
     pub accepted : account-check A ≡ Accepted
-    pub small : (row : ℕ) → row < A .count → day-at A row .number ≤ most-number
+    pub small : (row : ℕ) → row < A .count → day-at A row .number ≤ most-day-number
 
-  pub after-rows : (n : ℕ) → each n (row-check numbers) ≡ Accepted → AfterRows n (account-after numbers n)
+  pub after-rows : (n : ℕ) → each n (month-row-check numbers) ≡ Accepted → AfterRows n (account-after numbers n)
   unfolding account-after each
   after-rows zero e = record { many = refl; long = none-long; accepted = none-sound; small = λ row l. absurd (omega (arith, l)) }
   after-rows (suc row) e =
@@ -84,5 +84,6 @@ module _ (numbers : List ℕ) where
         many = rw add-one (ap suc (S .many));
         long = after-long A day (S .long) (tests .1);
         accepted = after-sound A day (S .long) (tests .1);
-        small = after-each A day (S .long) (tests .1) (λ day. day .number ≤ most-number) (S .small) (leb-true _ _ (kept _ _ (tests .0)));
+        small =
+            after-each A day (S .long) (tests .1) (λ day. day .number ≤ most-day-number) (S .small) (leb-true _ _ (kept _ _ (tests .0)));
       })

@@ -12,19 +12,19 @@ use Rattle.lines.proofs.Answers.{refused-before}
 use Rattle.month.specs.declared.account.Taken.{Taken}
 use Rattle.month.specs.declared.account.Closed.{Closed}
 use Rattle.month.specs.Statement.{ClosingAnswered}
-use Rattle.monthlisting.specs.Rows.{rows-of, rows-check, month-listing}
+use Rattle.monthlisting.specs.Rows.{days-in, month-check, month-listing}
 use Rattle.monthlisting.specs.Private.{HandedIn}
 use Rattle.monthlisting.proofs.Handing.{after-rows}
 
-module _ (numbers : List ℕ) {handed : Taken} (H : HandedIn numbers handed) {found : Check} (is : found ≡ rows-check numbers) where
+module _ (numbers : List ℕ) {handed : Taken} (H : HandedIn numbers handed) {found : Check} (is : found ≡ month-check numbers) where
   pub some-refused : {refusal : Refusal} (lent : List ℕ) → found ≡ Refused refusal
-      → ListingAnswered (rows-check numbers) (month-listing numbers) lent lent (Listing.Refused refusal)
+      → ListingAnswered (month-check numbers) (month-listing numbers) lent lent (Listing.Refused refusal)
   some-refused lent e = refused-before _ lent (sym is ∙ e)
 
   pub all-listed : {lent after : List ℕ} {closed : Closed} → found ≡ Accepted → ClosingAnswered (handed .account) lent after closed
-      → ListingAnswered (rows-check numbers) (month-listing numbers) lent after (closed .listing)
-  unfolding rows-check
+      → ListingAnswered (month-check numbers) (month-listing numbers) lent after (closed .listing)
+  unfolding month-check
   all-listed e closed =
       let accepted = sym is ∙ e in
       let rows = both-accepted _ _ accepted .1 in
-      rw accepted (rw (H .account (H .found ∙ rows), after-rows numbers (rows-of numbers) rows .accepted) at (closed .lists))
+      rw accepted (rw (H .account (H .found ∙ rows), after-rows numbers (days-in numbers) rows .accepted) at (closed .lists))

@@ -7,7 +7,7 @@ use Rattle.month.specs.declared.account.Account.{Account}
 use Rattle.month.specs.declared.account.Taken.{Taken}
 use Rattle.month.specs.Each.{each}
 use Rattle.month.specs.Account.{take-in}
-use Rattle.monthlisting.specs.Rows.{row-day, account-after, in-turn, row-check, rows-of}
+use Rattle.monthlisting.specs.Rows.{row-day, account-after, in-turn, month-row-check, days-in}
 
 -- a row's day taken in
 pub record RowTaken (A : Account) (numbers : List ℕ) (row : ℕ) (taken : Taken) : Type 0 where
@@ -16,5 +16,5 @@ pub record RowTaken (A : Account) (numbers : List ℕ) (row : ℕ) (taken : Take
 
 -- all rows handed in
 pub record HandedIn (numbers : List ℕ) (taken : Taken) : Type 0 where
-  pub found : taken .found ≡ each (rows-of numbers) (row-check numbers)
-  pub account : taken .found ≡ Accepted → taken .account ≡ account-after numbers (rows-of numbers)
+  pub found : taken .found ≡ each (days-in numbers) (month-row-check numbers)
+  pub account : taken .found ≡ Accepted → taken .account ≡ account-after numbers (days-in numbers)

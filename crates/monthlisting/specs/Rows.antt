@@ -10,8 +10,8 @@ use Rattle.month.specs.declared.account.AccountDay.{AccountDay}
 use Rattle.month.specs.declared.account.Account.{Account}
 use Rattle.month.specs.Each.{each}
 use Rattle.month.specs.Figures.{figures-by}
-use Rattle.month.specs.Days.{most-number}
-use Rattle.month.specs.Account.{no-days, day-check, take-in}
+use Rattle.month.specs.Days.{most-day-number}
+use Rattle.month.specs.Account.{no-days, taking-check, take-in}
 use Rattle.month.specs.Statement.{statement}
 
 -- a day's number, then its seven figures
@@ -30,25 +30,25 @@ unfoldable pub account-after : List ℕ → ℕ → Account
 account-after numbers zero = no-days
 account-after numbers (suc row) = take-in (account-after numbers row) (row-day numbers row) .account
 
--- a day's own tests
+-- 3 for a number beyond 32 bits, then what the account before it answers
 abbrev pub in-turn : List ℕ → Account → ℕ → Check
-in-turn numbers A row = keep (leb (row-number numbers row) most-number) 3 then day-check A (row-day numbers row)
+in-turn numbers A row = keep (leb (row-number numbers row) most-day-number) 3 then taking-check A (row-day numbers row)
 
 -- a day is refused by its number at its row
 abbrev pub placed : ℕ → Check → Check
 placed row Check.Accepted = Check.Accepted
 placed row (Check.Refused refusal) = Check.Refused (at-row (refusal .number) row)
 
-abbrev pub row-check : List ℕ → ℕ → Check
-row-check numbers row = placed row (in-turn numbers (account-after numbers row) row)
+abbrev pub month-row-check : List ℕ → ℕ → Check
+month-row-check numbers row = placed row (in-turn numbers (account-after numbers row) row)
 
-abbrev pub rows-of : List ℕ → ℕ
-rows-of numbers = length numbers / row-long
+abbrev pub days-in : List ℕ → ℕ
+days-in numbers = length numbers / row-long
 
 -- 9 unless there are whole rows; then the first day refused refuses the whole
-unfoldable pub rows-check : List ℕ → Check
-rows-check numbers =
-    Check.Accepted then keep (eqb (length numbers % row-long) 0) 9 then each (rows-of numbers) (row-check numbers)
+unfoldable pub month-check : List ℕ → Check
+month-check numbers =
+    Check.Accepted then keep (eqb (length numbers % row-long) 0) 9 then each (days-in numbers) (month-row-check numbers)
 
 abbrev pub month-listing : List ℕ → List ℕ
-month-listing numbers = statement (account-after numbers (rows-of numbers))
+month-listing numbers = statement (account-after numbers (days-in numbers))

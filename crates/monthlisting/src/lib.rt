@@ -6,11 +6,11 @@ use rows::ROW;
 use rows::hand_in;
 use units::Check;
 ghost use Rattle.lines.specs.Answer.{ListingAnswered};
-ghost use Rattle.monthlisting.specs.Rows.{rows-check, month-listing};
+ghost use Rattle.monthlisting.specs.Rows.{month-check, month-listing};
 
-// Lists a month: each row's day is handed in to an empty account, which is then closed. The text goes to the front of a lent block.
+// Lists a month: the rows' days are handed in one after another to an account that begins empty, which is then closed.
 pub fn list_month(numbers: &[u64], lent: &mut [u8]) -> Listing
-    ensures { λ r. ⌜ ListingAnswered (rows-check (now (numbers .entry))) (month-listing (now (numbers .entry)))
+    ensures { λ r. ⌜ ListingAnswered (month-check (now (numbers .entry))) (month-listing (now (numbers .entry)))
         (now (lent .entry)) (now (lent .exit)) r ⌝ }
 {
     let handed = hand_in(numbers);

@@ -9,8 +9,8 @@ use units::Megajoules;
 use units::Refusal;
 ghost use mathlib.Core.Path.{_≡_};
 ghost use Prim.Native.Nat.{_≤_, _<_};
-ghost use Rattle.month.specs.Days.{most-number};
-ghost use Rattle.monthlisting.specs.Rows.{row-number, row-day, rows-of};
+ghost use Rattle.month.specs.Days.{most-day-number};
+ghost use Rattle.monthlisting.specs.Rows.{row-number, row-day, days-in};
 ghost use Rattle.monthlisting.specs.Private.{RowTaken, HandedIn};
 
 // A day's number, then its seven figures.
@@ -43,7 +43,7 @@ pub fn hand_in(numbers: &[u64]) -> Taken
 
 // Takes a row's day in; 3 where its number is not one of 32 bits.
 fn take_row(account: Account, numbers: &[u64], row: usize) -> Taken
-    requires { ⌜ row < rows-of (now numbers) ⌝ }
+    requires { ⌜ row < days-in (now numbers) ⌝ }
     ensures { λ r. ⌜ RowTaken account (now (numbers .entry)) row r ⌝ }
 {
     let number = numbers[row * ROW];
@@ -58,7 +58,7 @@ fn take_row(account: Account, numbers: &[u64], row: usize) -> Taken
 
 // The day that a row spells.
 fn day_of(numbers: &[u64], row: usize) -> AccountDay
-    requires { ⌜ (row < rows-of (now numbers)) × (row-number (now numbers) row ≤ most-number) ⌝ }
+    requires { ⌜ (row < days-in (now numbers)) × (row-number (now numbers) row ≤ most-day-number) ⌝ }
     ensures { λ r. ⌜ r ≡ row-day (now (numbers .entry)) row ⌝ }
 {
     let at = row * ROW;

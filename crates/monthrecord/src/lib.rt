@@ -1,4 +1,4 @@
-// A month's account as one record, updated where it is: each function takes it apart and calls the method by value.
+// A month's account as one record, updated where it is: each function copies it out, calls the method by value and stores what comes back.
 use lines::Listing;
 use month::Account;
 use month::AccountDay;

@@ -16,7 +16,7 @@ ghost use Prim.Native.Nat.{_≤_};
 // What a lent byte is before the call.
 pub const LENT_BYTE: u8 = 255;
 
-// No block: one more than the longest statement.
+// No block has more room: one byte more than the longest statement.
 pub const MOST_ROOM: usize = month::MOST_STATEMENT + 1;
 
 fn put(figure: u64) {

@@ -1,14 +1,14 @@
 -- Rows that are not whole are refused, then the first day refused; the account of all others is closed.
 use mathlib.Core.Path.{_≡_}
-use Rattle.monthlisting.specs.Rows.{rows-check}
+use Rattle.monthlisting.specs.Rows.{month-check}
 use Rattle.monthlisting.proofs.Listing.{some-refused, all-listed}
 use borrow.Author.Needs.{needs}
 use Rattle.monthlisting.proofs.list_month.Statement.{statement}
 use Rattle.monthlisting.proofs.list_month.Tie as tie
 
 -- what the tests find
-tested : (c : tie.After-then) → c .then .result ≡ rows-check (c .before .before .before .before .before .args .numbers .now)
-unfolding rows-check
+tested : (c : tie.After-then) → c .then .result ≡ month-check (c .before .before .before .before .before .args .numbers .now)
+unfolding month-check
 tested c = rw (c .then .ensures, c .before .keep .ensures, c .before .before .hand-in .ensures .found)
 
 hand-in-requires : tie.Need-hand-in-requires

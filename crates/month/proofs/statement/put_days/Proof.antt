@@ -4,14 +4,14 @@ use native.Mathlib.Omega.{arith}
 use Rattle.text.specs.Text.{Laid}
 use Rattle.lines.proofs.Texts.{texts-none, texts-more, texts-all, laid-long}
 use Rattle.month.specs.Account.{day-at}
-use Rattle.month.specs.Statement.{day-lines}
+use Rattle.month.specs.Statement.{statement-lines}
 use borrow.Author.Needs.{needs}
 use Rattle.month.proofs.statement.put_days.Statement.{statement}
 use Rattle.month.proofs.statement.put_days.Tie as tie
 
 abbrev Inv-loop : tie.InvT-loop
 Inv-loop text₀ at account row₀ size₀ text row size =
-    (row ≤ account .count) × (size ≤ 2068 * row) × Laid (day-lines row (day-at account)) text₀ at size text
+    (row ≤ account .count) × (size ≤ 2068 * row) × Laid (statement-lines row (day-at account)) text₀ at size text
 
 abbrev μ-loop : tie.MeasureT-loop
 μ-loop text₀ at account row₀ size₀ text row size = account .count - row

@@ -11,10 +11,10 @@ use Rattle.month.proofs.account.Account.take_in.Tie as tie
 
 -- where the day is accepted
 few : (c : tie.After-enum-told2) → c .before .before .before .args .t1 .count < most-days
-few c = next-kept _ _ _ (sym (c .before .before .examine-day .ensures) ∙ c .enum-told2 .given .1) .few
+few c = next-kept _ _ _ (sym (c .before .before .examine-next .ensures) ∙ c .enum-told2 .given .1) .few
 
-examine-day-requires : tie.Need-examine-day-requires
-examine-day-requires c κs = search needs
+examine-next-requires : tie.Need-examine-next-requires
+examine-next-requires c κs = search needs
 
 enum-told : tie.Need-enum-told
 enum-told c = search needs
@@ -32,16 +32,16 @@ add-self : tie.Need-add-self
 add-self c = omega (arith, few c)
 
 returns : tie.Need-returns
-returns c = day-left _ _ (c .before .before .examine-day .ensures) (c .enum-told .given .1)
+returns c = day-left _ _ (c .before .before .examine-next .ensures) (c .enum-told .given .1)
 
 returns-2 : tie.Need-returns-2
-returns-2 c = day-taken (c .before .before .before .args .t1) _ (c .before .before .examine-day .ensures) (c .enum-told2 .given .1)
+returns-2 c = day-taken (c .before .before .before .args .t1) _ (c .before .before .examine-next .ensures) (c .enum-told2 .given .1)
 
 pub take-in-spec : {M : Type 1} → statement M
 take-in-spec =
     tie.close
     (tie.spec
-    examine-day-requires
+    examine-next-requires
     enum-told
     enum-told-2
     mul-day

@@ -12,10 +12,10 @@ use Rattle.month.proofs.account.Account.total_up.Statement.{statement}
 use Rattle.month.proofs.account.Account.total_up.Tie as tie
 
 abbrev Inv-loop : tie.InvT-loop
-Inv-loop self₀ account added₀ self added = TakingOff self₀ self added
+Inv-loop self₀ account sums₀ self sums = TakingOff self₀ self sums
 
 abbrev μ-loop : tie.MeasureT-loop
-μ-loop self₀ account added₀ self added = self .count
+μ-loop self₀ account sums₀ self sums = self .count
 
 -- where the tests accept
 accepted : (c : tie.After-enum-told Inv-loop μ-loop) → account-check (c .before .before .before .args .t1) ≡ Accepted

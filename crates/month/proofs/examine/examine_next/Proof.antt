@@ -1,8 +1,8 @@
 -- A 32nd day is refused; else its figures, the account and its number are tested.
 use Rattle.month.proofs.Examining.{no-room, day-tested}
 use borrow.Author.Needs.{needs}
-use Rattle.month.proofs.examine.examine_day.Statement.{statement}
-use Rattle.month.proofs.examine.examine_day.Tie as tie
+use Rattle.month.proofs.examine.examine_next.Statement.{statement}
+use Rattle.month.proofs.examine.examine_next.Tie as tie
 
 plain-requires : tie.Need-plain-requires
 plain-requires c κs = search needs
@@ -34,8 +34,8 @@ returns-2 c =
     day-tested _ _ _ (figures .before .if1 .left) (figures .check .ensures) (account .examine-account .ensures)
     (numbers .examine-later .ensures) (first .then .ensures) (c .then2 .ensures)
 
-pub examine-day-spec : {M : Type 1} → statement M
-examine-day-spec =
+pub examine-next-spec : {M : Type 1} → statement M
+examine-next-spec =
     tie.close
     (tie.spec
     plain-requires
