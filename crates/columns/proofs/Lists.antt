@@ -1,30 +1,43 @@
 -- A column as a list, and as what a loop writes to a lent list row by row.
 use mathlib.Core.Path.{_≡_, refl, ap, sym, _∙_, fun-ext}
 use mathlib.Core.Logic.{⊎-elim}
-use mathlib.Core.List.{List, [], _∷_, _++_}
+use mathlib.Core.List.{List, [], _∷_, _++_, append-nil}
 use Prim.Native.Nat.{ℕ, zero, suc, _+_, _-_, _≤_, _<_}
 use native.Mathlib.Nat.{le-antisymm, eq-or-lt-of-le, le-of-suc-le-suc, lt-suc-self, le-step, add-suc, suc-add, add-zero, zero-add}
 use native.Mathlib.Numerals.{add-one}
 use native.Mathlib.Decide.{decLt}
 use native.Mathlib.Omega.{arith}
-use lib.ListN.{length, take, drop, set, length-append, length-set, List·getD-append, List·getD-eq-default}
+use lib.ListN.{length, getD, take, drop, set, length-append, length-set, drop-of-length-le, List·getD-append, List·getD-eq-default}
 use lib.Seq.{sets, sets-eq, length-sets, ext-getD, getD-at, getD-drop, getD-append-add, take-at, drop-at}
 use Rattle.columns.specs.Column.{col, listed}
 use Rattle.columns.specs.Sum.{sum}
 use Rattle.columns.proofs.Sums.{sum-cong}
 
-pub length-listed : (n : ℕ) (f : ℕ → ℕ) → length (listed n f) ≡ n
+pub length-listed : {X : Type 0} (n : ℕ) (f : ℕ → X) → length (listed n f) ≡ n
 unfolding listed
 length-listed zero f = refl
 length-listed (suc n) f = length-append (listed n f) (f n ∷ []) ∙ ap (λ k. k + 1) (length-listed n f) ∙ add-one n
 
-pub col-listed : (n : ℕ) (f : ℕ → ℕ) (i : ℕ) → i < n → col (listed n f) i ≡ f i
+pub getD-listed : {X : Type 0} (n : ℕ) (f : ℕ → X) (i : ℕ) (past : X) → i < n → getD (listed n f) i past ≡ f i
 unfolding listed
-col-listed zero f i l = absurd (omega arith)
-col-listed (suc n) f i l =
-    ⊎-elim (λ e. ap (col (listed n f ++ (f n ∷ []))) e ∙ getD-at (listed n f) (f n) [] 0 n (length-listed n f) ∙ ap f (sym e))
-    (λ k. List·getD-append (listed n f) (f n ∷ []) 0 i (rw length-listed k) ∙ col-listed n f i k)
+getD-listed zero f i past l = absurd (omega arith)
+getD-listed (suc n) f i past l =
+    let last = getD-at (listed n f) (f n) [] past n (length-listed n f) in
+    ⊎-elim (λ e. ap (λ k. getD (listed n f ++ (f n ∷ [])) k past) e ∙ last ∙ ap f (sym e))
+    (λ k. List·getD-append (listed n f) (f n ∷ []) past i (rw length-listed k) ∙ getD-listed n f i past k)
     (eq-or-lt-of-le (le-of-suc-le-suc l))
+
+-- what holds of each row, and of what stands past them, holds at every place
+pub listed-each : {X : Type 0} (P : X → Type 0) (n : ℕ) (f : ℕ → X) (past : X) → ((i : ℕ) → i < n → P (f i)) → P past
+    → (i : ℕ) → P (getD (listed n f) i past)
+listed-each P n f past each after i = by (decLt i n)
+  where
+    by : Dec (i < n) → P (getD (listed n f) i past)
+    by (yes l) = rw (getD-listed n f i past l) (each i l)
+    by (no h) = rw (List·getD-eq-default (listed n f) past {n = i} (rw length-listed (omega arith))) after
+
+pub col-listed : (n : ℕ) (f : ℕ → ℕ) (i : ℕ) → i < n → col (listed n f) i ≡ f i
+col-listed n f i l = getD-listed n f i 0 l
 
 -- a column that is zero past its rows is what its list holds
 pub col-whole : (n : ℕ) (f : ℕ → ℕ) → ((i : ℕ) → n ≤ i → f i ≡ 0) → col (listed n f) ≡ f
@@ -46,16 +59,16 @@ listed-col xs =
     (λ i l. col-listed (length xs) (col xs) i (rw length-listed at l))
 
 -- ---- stores to a lent list, row after row; two runs of stores, one after the other, are one
-pub sets-append : (xs ys l : List ℕ) (i : ℕ) → sets l i (xs ++ ys) ≡ sets (sets l i xs) (i + length xs) ys
+pub sets-append : {X : Type 0} (xs ys l : List X) (i : ℕ) → sets l i (xs ++ ys) ≡ sets (sets l i xs) (i + length xs) ys
 sets-append [] ys l i = rw add-zero
 sets-append (x ∷ xs) ys l i = sets-append xs ys (set l i x) (suc i) ∙ rw (add-suc, suc-add)
 
 -- a loop has written the rows of f below `row` to the front of a lent list
-pub record Filling (lent : List ℕ) (f : ℕ → ℕ) (row : ℕ) (list : List ℕ) : Type 0 where
+pub record Filling {X : Type 0} (lent : List X) (f : ℕ → X) (row : ℕ) (list : List X) : Type 0 where
   pub front : list ≡ sets lent 0 (listed row f)
   pub long : length list ≡ length lent
 
-module _ (lent : List ℕ) (f : ℕ → ℕ) where
+module _ {X : Type 0} (lent : List X) (f : ℕ → X) where
   pub filling-none : Filling lent f 0 lent
   unfolding listed
   filling-none = record { front = refl; long = refl }
@@ -64,17 +77,24 @@ module _ (lent : List ℕ) (f : ℕ → ℕ) where
   unfolding listed
   sets-next row = rw add-one (sets-append (listed row f) (f row ∷ []) lent 0 ∙ rw (zero-add, length-listed))
 
-  pub filling-next : (row : ℕ) (list : List ℕ) (figure : ℕ) → Filling lent f row list → figure ≡ f row
+  pub filling-next : (row : ℕ) (list : List X) (figure : X) → Filling lent f row list → figure ≡ f row
       → Filling lent f (row + 1) (set list row figure)
   filling-next row list figure F e =
       record { front = rw (F .front, e) (sym (sets-next row)); long = length-set list row figure ∙ F .long }
 
-  pub filling-all : (n row : ℕ) (list : List ℕ) → Filling lent f row list → row ≤ n → n ≤ row → list ≡ sets lent 0 (listed n f)
+  pub filling-all : (n row : ℕ) (list : List X) → Filling lent f row list → row ≤ n → n ≤ row → list ≡ sets lent 0 (listed n f)
   filling-all n row list F h k = F .front ∙ ap (λ m. sets lent 0 (listed m f)) (le-antisymm h k)
 
 -- ---- what a filled list holds
-sets-front : (n : ℕ) (f : ℕ → ℕ) (l : List ℕ) → n ≤ length l → sets l 0 (listed n f) ≡ listed n f ++ drop n l
+sets-front : {X : Type 0} (n : ℕ) (f : ℕ → X) (l : List X) → n ≤ length l → sets l 0 (listed n f) ≡ listed n f ++ drop n l
 sets-front n f l h = sets-eq (listed n f) l 0 (simp (length-listed, zero-add) h) ∙ rw (zero-add, length-listed)
+
+-- a list as long as what is written to its front is that
+pub filling-whole : {X : Type 0} (lent : List X) (f : ℕ → X) (n row : ℕ) (list : List X) → Filling lent f row list → length lent ≡ n
+    → row ≤ n → n ≤ row → list ≡ listed n f
+filling-whole lent f n row list F long h k =
+    let rest : drop n lent ≡ [] = drop-of-length-le lent {i = n} (omega (arith, long)) in
+    filling-all lent f n row list F h k ∙ sets-front n f lent (omega (arith, long)) ∙ rw rest (append-nil (listed n f))
 
 pub col-sets : (n : ℕ) (f : ℕ → ℕ) (l : List ℕ) → n ≤ length l → (i : ℕ) → i < n → col (sets l 0 (listed n f)) i ≡ f i
 col-sets n f l h i k =

@@ -7,8 +7,8 @@ use lib.ListN.{getD}
 abbrev pub col : List ℕ → ℕ → ℕ
 col xs i = getD xs i 0
 
--- the first n rows of a column, as a list
-unfoldable pub listed : ℕ → (ℕ → ℕ) → List ℕ
+-- the first n rows of a column, or of anything that has rows, as a list
+unfoldable pub listed : {X : Type 0} → ℕ → (ℕ → X) → List X
 listed zero f = []
 listed (suc n) f = listed n f ++ (f n ∷ [])
 

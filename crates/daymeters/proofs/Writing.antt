@@ -4,9 +4,8 @@ use mathlib.Core.List.{List, [], _∷_}
 use Prim.Native.Nat.{ℕ, zero, suc, _+_, _≤_, _<_}
 use native.Mathlib.Omega.{arith}
 use lib.ListN.{length, set}
-use lib.Seq.{sets, take-all}
 use Rattle.columns.specs.Column.{listed}
-use Rattle.columns.proofs.Lists.{Filling, filling-none, filling-next, filling-all, length-sets-listed, take-sets}
+use Rattle.columns.proofs.Lists.{Filling, filling-none, filling-next, filling-whole}
 use Rattle.units.specs.declared.Megajoules.{Megajoules}
 use Rattle.metered.specs.Hours.{bare-hours}
 use Rattle.metered.proofs.Rows.{length-figures}
@@ -20,11 +19,6 @@ figures-set (h ∷ hours) (suc hour) x = ap (λ rest. h .0 ∷ rest) (figures-se
 of-figures : (hours : List Megajoules) → megajoules (bare-hours hours) ≡ hours
 of-figures [] = refl
 of-figures (h ∷ hours) = ap (λ rest. h ∷ rest) (of-figures hours)
-
--- a list as long as what is written to its front is that
-whole : (n : ℕ) (f : ℕ → ℕ) (lent : List ℕ) → length lent ≡ n → sets lent 0 (listed n f) ≡ listed n f
-whole n f lent e =
-    sym (take-all n (sets lent 0 (listed n f)) (omega (arith, length-sets-listed n f lent))) ∙ take-sets n f lent (omega arith)
 
 -- a loop has written the hours of f below `hour`, of n, to the front of an array
 pub record Writing (start : List Megajoules) (n : ℕ) (f : ℕ → ℕ) (hour : ℕ) (hours : List Megajoules) : Type 0 where
@@ -46,6 +40,4 @@ module _ (start : List Megajoules) (n : ℕ) (f : ℕ → ℕ) where
     pub written : length start ≡ n → n ≤ hour → hours ≡ megajoules (listed n f)
     written e l =
         sym (of-figures hours)
-        ∙ ap megajoules
-        (filling-all (bare-hours start) f n hour (bare-hours hours) (W .filling) (W .inside) l
-        ∙ whole n f (bare-hours start) (length-figures start ∙ e))
+        ∙ ap megajoules (filling-whole (bare-hours start) f n hour (bare-hours hours) (W .filling) (length-figures start ∙ e) (W .inside) l)

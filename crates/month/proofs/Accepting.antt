@@ -2,17 +2,14 @@
 use mathlib.Core.Path.{_≡_, refl}
 use mathlib.Core.Logic.{⊎-elim}
 use Prim.Native.Nat.{ℕ, zero, suc, _≤_, _<_}
-use native.Mathlib.Nat.{le-of-suc-le-suc, eq-or-lt-of-le, le-step, lt-suc-self}
 use native.Mathlib.Omega.{arith}
 use borrow.Author.Tests.{leb-true, ltb-true, le-leb, eqb-true, eq-eqb}
 use Rattle.columns.specs.Column.{col}
 use Rattle.units.specs.declared.Cents.{Cents}
 use Rattle.units.specs.declared.Rate.{Rate}
-use Rattle.units.specs.declared.refusal.Refusal.{Refusal}
-use Rattle.units.specs.declared.refusal.Check.{Check}
-use Rattle.units.specs.declared.refusal.Check.the-variants.{Accepted, Refused}
-use Rattle.units.specs.Refusals.{_then_}
+use Rattle.units.specs.declared.refusal.Check.the-variants.{Accepted}
 use Rattle.units.proofs.Checks.{both-accepted, kept, accepts-both, accepts-kept}
+use Rattle.units.proofs.Testing.{each-accepted, accepts-each}
 use Rattle.excesses.specs.Greatest.{greatest, Greatest}
 use Rattle.tariff.specs.declared.charges.Change.{Change}
 use Rattle.tariff.specs.Charges.{charge-verdict, variation-charge, request-charge}
@@ -22,31 +19,8 @@ use Rattle.overruns.specs.Day.{ShipperDay, day-answer, day-verdict}
 use Rattle.overruns.proofs.Promises.{day-kept}
 use Rattle.month.specs.declared.figures.Figures.{Figures}
 use Rattle.month.specs.declared.account.AccountDay.{AccountDay}
-use Rattle.month.specs.Each.{each}
 use Rattle.month.specs.Figures.{figure, figure-bounds, figures-check}
 use Rattle.month.specs.Days.{most-days, later, days-check, next-check}
-
--- ---- each of n rows
-pub each-accepted : (test : ℕ → Check) (n : ℕ) → each n test ≡ Accepted → (row : ℕ) → row < n → test row ≡ Accepted
-unfolding each
-each-accepted test zero accepted row l = absurd (omega (arith, l))
-each-accepted test (suc n) accepted row l =
-    let both = both-accepted _ _ accepted in
-    ⊎-elim (λ e. rw e (both .1)) (λ below. each-accepted test n (both .0) row below) (eq-or-lt-of-le (le-of-suc-le-suc l))
-
-pub accepts-each : (test : ℕ → Check) (n : ℕ) → ((row : ℕ) → row < n → test row ≡ Accepted) → each n test ≡ Accepted
-unfolding each
-accepts-each test zero all = refl
-accepts-each test (suc n) all = accepts-both (accepts-each test n (λ row l. all row (le-step l))) (all n (lt-suc-self n))
-
--- the first row that is refused refuses the whole
-pub each-refused : (test : ℕ → Check) (n row : ℕ) {refusal : Refusal} → row < n → each row test ≡ Accepted
-    → test row ≡ Refused refusal → each n test ≡ Refused refusal
-unfolding each _then_
-each-refused test zero row l before e = absurd (omega (arith, l))
-each-refused test (suc n) row l before e =
-    ⊎-elim (λ same. rw (← same, before) e) (λ below. rw (each-refused test n row below before e))
-    (eq-or-lt-of-le (le-of-suc-le-suc l))
 
 -- ---- a day's figures
 pub record FiguresKept (F : Figures) : Type 0 where

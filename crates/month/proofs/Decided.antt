@@ -5,7 +5,7 @@ use Prim.Native.Nat.{ℕ, zero, suc}
 use lib.ListN.{length}
 use Rattle.units.specs.declared.refusal.Check.{Check}
 use Rattle.units.specs.Verdict.{Decided, of-check}
-use Rattle.units.proofs.Verdicts.{AllNumbered, none, _and_, kept-by, decided, checked}
+use Rattle.units.proofs.Verdicts.{AllNumbered, none, _and_, kept-by, each-by, decided, checked}
 use Rattle.lines.specs.Answer.{listing-verdict, listing-check}
 use Rattle.lines.proofs.Decided.{listed-decided}
 use Rattle.month.specs.declared.figures.Figures.{Figures}
@@ -14,22 +14,15 @@ use Rattle.month.specs.declared.account.Account.{Account}
 use Rattle.month.specs.declared.account.Taken.{Taken}
 use Rattle.month.specs.declared.account.Totalled.{Totalled}
 use Rattle.month.specs.declared.account.Closed.{Closed}
-use Rattle.month.specs.Each.{each}
 use Rattle.month.specs.Figures.{seven-zeros, figures-check}
 use Rattle.month.specs.Days.{later, days-check, next-check}
 use Rattle.month.specs.Account.{day-at, account-check, taking-check, take-in}
 use Rattle.month.specs.Total.{account-sums, total-answer, total-verdict, total-up}
 use Rattle.month.specs.Statement.{statement, ClosingAnswered}
 
--- for callers: rows tested one after another
-pub each-numbered : (test : ℕ → Check) → ((row : ℕ) → AllNumbered (test row)) → (n : ℕ) → AllNumbered (each n test)
-unfolding each
-each-numbered test all zero = none
-each-numbered test all (suc n) = each-numbered test all n and all n
-
 figures-numbered : (F : Figures) → AllNumbered (figures-check F)
 unfolding figures-check
-figures-numbered F = each-numbered _ (λ place. kept-by _ 3 tt tt) 7 and kept-by _ 3 tt tt
+figures-numbered F = each-by _ 7 (λ place. kept-by _ 3 tt tt) and kept-by _ 3 tt tt
 
 later-numbered : (days : ℕ → AccountDay) (n number : ℕ) → AllNumbered (later days n number)
 unfolding later
@@ -40,8 +33,8 @@ days-numbered : (n : ℕ) (days : ℕ → AccountDay) → AllNumbered (days-chec
 unfolding days-check
 days-numbered n days =
     kept-by _ 3 tt tt
-    and each-numbered _ (λ row. figures-numbered (days row .figures)) n
-    and each-numbered _ (λ row. later-numbered days row (days row .number)) n
+    and each-by _ n (λ row. figures-numbered (days row .figures))
+    and each-by _ n (λ row. later-numbered days row (days row .number))
 
 pub next-numbered : (n : ℕ) (days : ℕ → AccountDay) (day : AccountDay) → AllNumbered (next-check n days day)
 unfolding next-check

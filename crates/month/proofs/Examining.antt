@@ -8,8 +8,8 @@ use Rattle.units.specs.declared.refusal.Refusal.{Refusal}
 use Rattle.units.specs.declared.refusal.Check.{Check}
 use Rattle.units.specs.declared.refusal.Check.the-variants.{Accepted, Refused}
 use Rattle.units.specs.Refusals.{plain, _then_, keep}
+use Rattle.units.specs.Each.{each}
 use Rattle.month.specs.declared.account.AccountDay.{AccountDay}
-use Rattle.month.specs.Each.{each}
 use Rattle.month.specs.Figures.{figures-check}
 use Rattle.month.specs.Days.{most-days, later, days-check, next-check}
 

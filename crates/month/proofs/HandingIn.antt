@@ -13,10 +13,11 @@ use Rattle.columns.proofs.Joined.{joined-same}
 use Rattle.units.specs.declared.refusal.Check.{Check}
 use Rattle.units.specs.declared.refusal.Check.the-variants.{Accepted, Refused}
 use Rattle.units.specs.Refusals.{accepted-or, _then_, keep}
+use Rattle.units.specs.Each.{each}
+use Rattle.units.proofs.Checks.{then-accepted}
 use Rattle.month.specs.declared.account.AccountDay.{AccountDay}
 use Rattle.month.specs.declared.account.Account.{Account}
 use Rattle.month.specs.declared.account.Total.{Total}
-use Rattle.month.specs.Each.{each}
 use Rattle.month.specs.Figures.{figures-check}
 use Rattle.month.specs.Days.{most-days, no-day, later, days-check, next-check}
 use Rattle.month.specs.Account.{no-days, day-at, account-check, taking-check, with-day, take-in}
@@ -80,11 +81,6 @@ record Holding (A : Account) (accepted : List AccountDay) : Type 0 where
   long : length (A .days) ≡ most-days
   sound : account-check A ≡ Accepted
   holds : take (A .count) (A .days) ≡ accepted
-
-then-accepted : (found : Check) → (found then Accepted) ≡ found
-unfolding _then_
-then-accepted Accepted = refl
-then-accepted (Refused refusal) = refl
 
 module _ (A : Account) (accepted : List AccountDay) (H : Holding A accepted) where
   many : A .count ≡ length accepted

@@ -7,11 +7,11 @@ use Rattle.columns.specs.Column.{col, joined}
 use Rattle.columns.specs.Sum.{sum}
 use Rattle.units.specs.declared.refusal.Check.the-variants.{Accepted, Refused}
 use Rattle.units.specs.Refusals.{plain, _then_, keep}
+use Rattle.units.specs.Each.{each}
 use Rattle.text.specs.Text.{digits, decimal}
 use Rattle.lines.specs.Line.{line}
 use Rattle.month.specs.declared.account.AccountDay.{AccountDay}
 use Rattle.month.specs.declared.account.Account.{Account}
-use Rattle.month.specs.Each.{each}
 use Rattle.month.specs.Figures.{figures-by, figure-bounds, figures-check}
 use Rattle.month.specs.Days.{later, days-check, next-check}
 use Rattle.month.specs.Account.{no-days, take-in}

@@ -3,8 +3,8 @@ use Prim.Native.Nat.{ℕ, zero, suc}
 use lib.Dec.{leb, ltb}
 use Rattle.units.specs.declared.refusal.Check.{Check}
 use Rattle.units.specs.Refusals.{_then_, keep}
+use Rattle.units.specs.Each.{each}
 use Rattle.month.specs.declared.account.AccountDay.{AccountDay}
-use Rattle.month.specs.Each.{each}
 use Rattle.month.specs.Figures.{seven-zeros, figures-check}
 
 -- a month has at most so many days

@@ -6,13 +6,13 @@ use Rattle.columns.specs.Column.{col}
 use Rattle.units.specs.declared.refusal.Check.{Check}
 use Rattle.units.specs.Bound.{most-chargeable}
 use Rattle.units.specs.Refusals.{_then_, keep}
+use Rattle.units.specs.Each.{each}
 use Rattle.excesses.specs.Hourly.{most-hourly}
 use Rattle.excesses.specs.TwelveHourly.{most-twelve-hourly}
 use Rattle.excesses.specs.Greatest.{greatest}
 use Rattle.tariff.specs.Charges.{most-variation, most-request}
 use Rattle.overruns.specs.Daily.{most-daily}
 use Rattle.month.specs.declared.figures.Figures.{Figures}
-use Rattle.month.specs.Each.{each}
 
 -- the seven as bare numbers, each at its place from 0, and from a number for each place
 abbrev pub figure-list : Figures → List ℕ

@@ -1,4 +1,3 @@
-pub mod Each
 pub mod Figures
 pub mod Days
 pub mod Account

@@ -6,7 +6,7 @@ use units::Check;
 use units::Refusal;
 ghost use mathlib.Core.Path.{_≡_};
 ghost use Prim.Native.Nat.{_≤_};
-ghost use Rattle.month.specs.Each.{each};
+ghost use Rattle.units.specs.Each.{each};
 ghost use Rattle.month.specs.Days.{most-days, later};
 ghost use Rattle.month.specs.Figures.{figures-check};
 ghost use Rattle.month.specs.Account.{day-at, account-check, taking-check};

@@ -10,22 +10,17 @@ use lib.ListN.{length}
 use Rattle.units.specs.declared.refusal.Refusal.{Refusal}
 use Rattle.units.specs.declared.refusal.Check.{Check}
 use Rattle.units.specs.declared.refusal.Check.the-variants.{Accepted, Refused}
-use Rattle.units.specs.Refusals.{at-row}
-use Rattle.units.proofs.Checks.{both-accepted, kept, accepts-both}
+use Rattle.units.specs.Refusals.{placed}
+use Rattle.units.specs.Each.{each}
+use Rattle.units.proofs.Checks.{no-acceptance, both-accepted, kept, placed-accepted, accepts-both, accepts-placed}
+use Rattle.units.proofs.Testing.{each-refused}
 use Rattle.month.specs.declared.account.Account.{Account}
 use Rattle.month.specs.declared.account.Taken.{Taken}
-use Rattle.month.specs.Each.{each}
 use Rattle.month.specs.Days.{most-days, most-day-number}
 use Rattle.month.specs.Account.{no-days, day-at, account-check}
-use Rattle.month.proofs.Accepting.{each-refused}
 use Rattle.month.proofs.HandingIn.{after-each, after-sound, after-long, none-long, none-sound}
-use Rattle.monthlisting.specs.Rows.{row-day, account-after, in-turn, placed, month-row-check, days-in}
+use Rattle.monthlisting.specs.Rows.{row-day, account-after, in-turn, month-row-check, days-in}
 use Rattle.monthlisting.specs.Private.{RowTaken, HandedIn}
-
--- a placed refusal is a refusal, a placed acceptance an acceptance
-accepted-there : (row : ℕ) (found : Check) → placed row found ≡ Accepted → found ≡ Accepted
-accepted-there row Accepted e = refl
-accepted-there row (Refused refusal) e = cc
 
 module _ (numbers : List ℕ) where
   -- ---- the loop
@@ -49,14 +44,16 @@ module _ (numbers : List ℕ) where
           record {
             inside = omega (arith, l);
             after = rw (add-one, ← H .after) (T .account e);
-            accepted = rw add-one (accepts-both (H .accepted) (row-found ∙ ap (placed row) e));
+            accepted = rw add-one (accepts-both (H .accepted) (row-found ∙ accepts-placed row e));
           }
 
-      pub handing-stops : {refusal there : Refusal} → taken .found ≡ Refused refusal → there ≡ at-row (refusal .number) row
-          → HandedIn numbers (record { account = A; found = Refused there })
+      pub handing-stops : {refusal : Refusal} {there : Check} → taken .found ≡ Refused refusal → there ≡ placed row (taken .found)
+          → HandedIn numbers (record { account = A; found = there })
+      unfolding placed
       handing-stops e is =
+          let stops = is ∙ ap (placed row) e in
           let refused = each-refused (month-row-check numbers) (days-in numbers) row l (H .accepted) (row-found ∙ ap (placed row) e) in
-          record { found = ap Refused is ∙ sym refused; account = λ none. cc }
+          record { found = stops ∙ sym refused; account = λ accepted. no-acceptance (sym stops ∙ accepted) }
 
     pub handing-all : days-in numbers ≤ row → HandedIn numbers (record { account = A; found = Accepted })
     handing-all l =
@@ -76,7 +73,7 @@ module _ (numbers : List ℕ) where
   after-rows (suc row) e =
       let both = both-accepted _ _ e in
       let S = after-rows row (both .0) in
-      let tests = both-accepted _ _ (accepted-there row _ (both .1)) in
+      let tests = both-accepted _ _ (placed-accepted row _ (both .1)) in
       let A = account-after numbers row in
       let day = row-day numbers row in
       rw (tests .1)

@@ -3,9 +3,9 @@ use mathlib.Core.Path.{_≡_}
 use mathlib.Core.List.{List}
 use Prim.Native.Nat.{ℕ}
 use Rattle.units.specs.declared.refusal.Check.the-variants.{Accepted}
+use Rattle.units.specs.Each.{each}
 use Rattle.month.specs.declared.account.Account.{Account}
 use Rattle.month.specs.declared.account.Taken.{Taken}
-use Rattle.month.specs.Each.{each}
 use Rattle.month.specs.Account.{take-in}
 use Rattle.monthlisting.specs.Rows.{row-day, account-after, in-turn, month-row-check, days-in}
 

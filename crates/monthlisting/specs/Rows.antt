@@ -5,10 +5,10 @@ use lib.Dec.{leb, eqb}
 use lib.ListN.{length}
 use Rattle.columns.specs.Column.{col}
 use Rattle.units.specs.declared.refusal.Check.{Check}
-use Rattle.units.specs.Refusals.{at-row, _then_, keep}
+use Rattle.units.specs.Refusals.{_then_, keep, placed}
+use Rattle.units.specs.Each.{each}
 use Rattle.month.specs.declared.account.AccountDay.{AccountDay}
 use Rattle.month.specs.declared.account.Account.{Account}
-use Rattle.month.specs.Each.{each}
 use Rattle.month.specs.Figures.{figures-by}
 use Rattle.month.specs.Days.{most-day-number}
 use Rattle.month.specs.Account.{no-days, taking-check, take-in}
@@ -35,10 +35,6 @@ abbrev pub in-turn : List ℕ → Account → ℕ → Check
 in-turn numbers A row = keep (leb (row-number numbers row) most-day-number) 3 then taking-check A (row-day numbers row)
 
 -- a day is refused by its number at its row
-abbrev pub placed : ℕ → Check → Check
-placed row Check.Accepted = Check.Accepted
-placed row (Check.Refused refusal) = Check.Refused (at-row (refusal .number) row)
-
 abbrev pub month-row-check : List ℕ → ℕ → Check
 month-row-check numbers row = placed row (in-turn numbers (account-after numbers row) row)
 

@@ -26,10 +26,10 @@ pub fn hand_in(numbers: &[u64]) -> Taken
     while row < rows {
         let taken = take_row(account, numbers, row);
         let found = taken.found;
-        if let Check::Refused(refusal) = found {
+        if let Check::Refused(_) = found {
             return Taken {
                 account,
-                found: Check::Refused(Refusal::at_row(refusal.number, row)),
+                found: found.placed(row),
             };
         }
         account = taken.account;

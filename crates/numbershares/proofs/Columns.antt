@@ -23,16 +23,16 @@ use Rattle.numbershares.specs.DayTable.{table-of}
 use Rattle.numbershares.specs.Private.{columns-check, early-check}
 
 -- ---- acceptance of all is acceptance of each
-pub record EachAccepted (counts : Counts) (numbers : List ℕ) : Type 0 where
+pub record ColumnsAccepted (counts : Counts) (numbers : List ℕ) : Type 0 where
   pub one : column-check counts numbers 1 most-rows ≡ Check.Accepted
   pub two : column-check counts numbers 2 most-rows ≡ Check.Accepted
   pub three : column-check counts numbers 3 most-rows ≡ Check.Accepted
   pub four : column-check counts numbers 4 most-rows ≡ Check.Accepted
   pub five : column-check counts numbers 5 most-rows ≡ Check.Accepted
 
-pub each-accepted : (day : Day) (numbers : List ℕ) → early-check day numbers ≡ Check.Accepted → EachAccepted (day .counts) numbers
+pub columns-accepted : (day : Day) (numbers : List ℕ) → early-check day numbers ≡ Check.Accepted → ColumnsAccepted (day .counts) numbers
 unfolding early-check columns-check
-each-accepted day numbers e =
+columns-accepted day numbers e =
     let five = both-accepted _ _ (both-accepted _ _ e .1) in
     let four = both-accepted _ _ (five .0) in
     let three = both-accepted _ _ (four .0) in
@@ -40,7 +40,7 @@ each-accepted day numbers e =
     record { one = two .0; two = two .1; three = three .1; four = four .1; five = five .1 }
 
 -- there are no more rows than a table has
-pub few-rows : (counts : Counts) (numbers : List ℕ) → EachAccepted counts numbers → count counts Shipper ≤ most-rows
+pub few-rows : (counts : Counts) (numbers : List ℕ) → ColumnsAccepted counts numbers → count counts Shipper ≤ most-rows
 few-rows counts numbers E =
     let long = length-replicate {A = ℕ} most-rows 0 in
     omega (

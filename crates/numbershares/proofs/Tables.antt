@@ -13,7 +13,7 @@ use Rattle.units.specs.declared.refusal.Check.{Check}
 use Rattle.units.specs.declared.refusal.Check.the-variants.{Accepted, Refused}
 use Rattle.units.specs.Bound.{most-gigajoules, most-rows}
 use Rattle.units.specs.Refusals.{_then_, keep, clear, within}
-use Rattle.units.proofs.Checks.{both-accepted, accepts-both, accepts-kept}
+use Rattle.units.proofs.Checks.{then-accepted, both-accepted, accepts-both, accepts-kept}
 use Rattle.daytable.specs.Table.{Table, rows}
 use Rattle.daytable.specs.Acceptance.{bounds-check, lengths-check, table-check}
 use Rattle.dayformat.specs.declared.day.Day.{Day}
@@ -31,11 +31,6 @@ use Rattle.numbershares.specs.Answer.{numbers-check}
 use Rattle.numbershares.specs.Private.{columns-check, early-check}
 
 -- ---- chains of tests
-then-accepted : (a : Check) → (a then Accepted) ≡ a
-unfolding _then_
-then-accepted Accepted = refl
-then-accepted (Refused x) = refl
-
 -- tests looked at as one, and tests looked at once more
 grouped : (a b c d e f g : Check) → (a then b then (c then d then e then f then g))
     ≡ (Accepted then a then b then Accepted then c then d then e then f then g)

@@ -13,7 +13,7 @@ use Rattle.columns.proofs.Firsts.{first-none}
 use Rattle.units.specs.declared.refusal.Refusal.{Refusal}
 use Rattle.units.specs.declared.refusal.Check.{Check}
 use Rattle.units.specs.declared.refusal.Check.the-variants.{Accepted, Refused}
-use Rattle.units.specs.Refusals.{at-row, _then_, keep, clear, within}
+use Rattle.units.specs.Refusals.{at-row, _then_, keep, clear, within, placed}
 use Rattle.units.proofs.Aboves.{none-above}
 
 -- a refusal is no acceptance
@@ -23,6 +23,12 @@ no-acceptance e = let z : _≡_ {A = ℕ} 0 1 = cc in absurd (omega arith)
 -- and one refusal is one
 pub refusal-is : {x y : Refusal} → Refused x ≡ Refused y → x ≡ y
 refusal-is e = cc
+
+-- a last test that accepts changes nothing
+pub then-accepted : (found : Check) → (found then Accepted) ≡ found
+unfolding _then_
+then-accepted Accepted = refl
+then-accepted (Refused refusal) = refl
 
 -- ---- from acceptance
 pub both-accepted : (a b : Check) → (a then b) ≡ Accepted → (a ≡ Accepted) × (b ≡ Accepted)
@@ -46,6 +52,11 @@ cleared rows found number = by (leb rows found) refl
 pub all-within : (most : ℕ) (xs : List ℕ) → within most xs ≡ Accepted → (i : ℕ) → i < length xs → col xs i ≤ most
 all-within most xs e = none-above most xs (cleared _ _ _ e)
 
+pub placed-accepted : (row : ℕ) (found : Check) → placed row found ≡ Accepted → found ≡ Accepted
+unfolding placed
+placed-accepted row Accepted e = refl
+placed-accepted row (Refused refusal) e = no-acceptance e
+
 -- ---- to acceptance
 pub accepts-both : {a b : Check} → a ≡ Accepted → b ≡ Accepted → (a then b) ≡ Accepted
 unfolding _then_
@@ -63,3 +74,7 @@ pub accepts-within : (most : ℕ) (xs : List ℕ) → ((i : ℕ) → i < length 
 accepts-within most xs low =
     accepts-clear _ _ _
     (le-of-eq (sym (first-none (λ i. ltb most (col xs i)) (length xs) (λ i l. le-ltb most (col xs i) (low i l)))))
+
+pub accepts-placed : (row : ℕ) {found : Check} → found ≡ Accepted → placed row found ≡ Accepted
+unfolding placed
+accepts-placed row e = rw e

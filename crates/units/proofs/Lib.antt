@@ -1,5 +1,6 @@
 pub mod Aboves
 pub mod Checks
+pub mod Testing
 pub mod Determined
-pub mod Places
 pub mod Verdicts
+pub mod Places

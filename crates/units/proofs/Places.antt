@@ -10,9 +10,9 @@ use lib.ListN.{length}
 use Rattle.units.specs.declared.refusal.Check.{Check}
 use Rattle.units.specs.declared.refusal.Check.the-variants.{Accepted}
 use Rattle.units.specs.Bound.{most-rows}
-use Rattle.units.specs.Refusals.{_then_, keep, clear, within}
+use Rattle.units.specs.Refusals.{_then_, keep, clear, within, placed}
 use Rattle.units.proofs.Checks.{both-accepted, kept}
-use Rattle.units.proofs.Verdicts.{Refuses, refuses-none, refuses-then, refuses-keep, refuses-clear}
+use Rattle.units.proofs.Verdicts.{Refuses, refuses-none, refuses-then, refuses-keep, refuses-clear, refuses-placed}
 
 abbrev pub PlacedTo : ℕ → Check → Type 0
 PlacedTo most = Refuses (λ refusal. refusal .place ≤ most)
@@ -31,6 +31,9 @@ module _ {most : ℕ} where
 
   pub at-one-of : (rows found number : ℕ) → rows ≤ suc most → PlacedTo most (clear rows found number)
   at-one-of rows found number few = refuses-clear _ rows found number (λ inside. omega (arith, inside, few))
+
+  pub placed-there : (row : ℕ) (found : Check) → row ≤ most → PlacedTo most (placed row found)
+  placed-there row found l = refuses-placed _ row found (λ refusal e. l)
 
 -- ---- lists of shippers: a row is looked at after the count
 pub record Counted (rows : ℕ) (found : Check) : Type 0 where

@@ -1,14 +1,16 @@
 -- A chain of tests refuses by 01's numbers alone, so an answer's number is 0 exactly where they all accept.
 use mathlib.Core.Path.{_≡_, refl, sym, ap}
 use mathlib.Core.Bool.{Bool, true, false, cond}
-use Prim.Native.Nat.{ℕ, _<_}
+use Prim.Native.Nat.{ℕ, zero, suc, _<_}
+use native.Mathlib.Nat.{le-step, lt-suc-self}
 use native.Mathlib.Omega.{arith}
 use borrow.Author.Tests.{leb-false}
 use lib.Dec.{T, leb, lit≤}
 use Rattle.units.specs.declared.refusal.Refusal.{Refusal}
 use Rattle.units.specs.declared.refusal.Check.{Check}
 use Rattle.units.specs.declared.refusal.Check.the-variants.{Accepted, Refused}
-use Rattle.units.specs.Refusals.{plain, at-row, _then_, keep, clear}
+use Rattle.units.specs.Refusals.{plain, at-row, _then_, keep, clear, placed}
+use Rattle.units.specs.Each.{each}
 use Rattle.units.specs.Verdict.{Verdict, accepting, refusing, of-check, Numbered, Decided}
 use Rattle.units.proofs.Checks.{no-acceptance, refusal-is}
 
@@ -39,6 +41,19 @@ module _ (P : Refusal → Type 0) where
       by true h refusal e = no-acceptance (sym e)
       by false h refusal e = rw (← refusal-is e) (p (leb-false rows found h))
 
+  pub refuses-placed : (row : ℕ) (found : Check) → ((refusal : Refusal) → found ≡ Refused refusal → P (at-row (refusal .number) row))
+      → Refuses P (placed row found)
+  unfolding placed
+  refuses-placed row Accepted p refusal e = no-acceptance (sym e)
+  refuses-placed row (Refused x) p refusal e = rw (← refusal-is e) (p x refl)
+
+  -- each row is looked at only where those before it are accepted
+  pub refuses-each : (test : ℕ → Check) (n : ℕ) → ((row : ℕ) → row < n → each row test ≡ Accepted → Refuses P (test row))
+      → Refuses P (each n test)
+  unfolding each
+  refuses-each test zero all = refuses-none
+  refuses-each test (suc n) all = refuses-then _ _ (refuses-each test n (λ row l. all row (le-step l))) (all n (lt-suc-self n))
+
 -- ---- 01's numbers
 abbrev pub AllNumbered : Check → Type 0
 AllNumbered = Refuses Numbered
@@ -58,6 +73,14 @@ kept-by kept number least most = refuses-keep Numbered kept number (numbered lea
 
 pub cleared-by : (rows found number : ℕ) → T (leb 1 number) → T (leb number 11) → AllNumbered (clear rows found number)
 cleared-by rows found number least most = refuses-clear Numbered rows found number (λ inside. numbered least most)
+
+-- a row in place of a place keeps the number
+pub placed-by : (row : ℕ) {found : Check} → AllNumbered found → AllNumbered (placed row found)
+placed-by row N =
+    refuses-placed Numbered row _ (λ refusal e. let is = N refusal e in record { least = is .least; most = is .most })
+
+pub each-by : (test : ℕ → Check) (n : ℕ) → ((row : ℕ) → AllNumbered (test row)) → AllNumbered (each n test)
+each-by test n all = refuses-each Numbered test n (λ row l accepted. all row)
 
 -- ---- answers
 -- an answer made of what the tests find and of figures, where its verdict is by cases as 01 has it

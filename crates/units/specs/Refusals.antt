@@ -43,3 +43,8 @@ clear rows found number = cond (leb rows found) Accepted (Refused (at-row number
 -- 3 at the lowest row beyond its bound
 abbrev pub within : ℕ → List ℕ → Check
 within most xs = clear (length xs) (first-above most xs) 3
+
+-- a refusal told by its number at a row, whatever its place was
+unfoldable pub placed : ℕ → Check → Check
+placed row Accepted = Accepted
+placed row (Refused refusal) = Refused (at-row (refusal .number) row)

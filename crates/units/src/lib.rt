@@ -1,4 +1,4 @@
-// Gigajoules, megajoules, cents and rates; 01's bounds; a refusal; a list's figures, and the first above a bound.
+// Gigajoules, megajoules, cubic metres, cents and rates; 01's bounds; a refusal; a list's figures, and the first above a bound.
 mod above;
 mod bounds;
 mod refusal;
@@ -28,6 +28,9 @@ pub struct Gigajoules(pub u32);
 
 // Whole megajoules: hours, capacities of an hour, overruns, system use gas.
 pub struct Megajoules(pub u64);
+
+// Whole cubic metres: volumes.
+pub struct CubicMetres(pub u64);
 
 // Money.
 pub struct Cents(pub u64);

@@ -3,7 +3,7 @@ use crate::Megajoules;
 use crate::above::first_gigajoules_above;
 use crate::above::first_megajoules_above;
 ghost use mathlib.Core.Path.{_≡_};
-ghost use Rattle.units.specs.Refusals.{plain, at-row, at-byte, _then_, keep, clear, within};
+ghost use Rattle.units.specs.Refusals.{plain, at-row, at-byte, _then_, keep, clear, within, placed};
 
 // Why a call is refused: 01's number, and the place.
 pub struct Refusal {
@@ -81,6 +81,16 @@ impl Check {
                 }
                 Check::Refused(Refusal::at_row(number, found))
             }
+        }
+    }
+
+    // A refusal told by its number at a row, whatever its place was.
+    pub fn placed(self, row: usize) -> Self
+        ensures { λ r. ⌜ r ≡ placed row self ⌝ }
+    {
+        match self {
+            Check::Refused(refusal) => Check::Refused(Refusal::at_row(refusal.number, row)),
+            Check::Accepted => Check::Accepted,
         }
     }
 

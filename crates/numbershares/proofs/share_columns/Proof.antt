@@ -3,7 +3,7 @@ use Prim.Native.Nat.{_≤_}
 use Rattle.units.specs.Bound.{most-rows}
 use Rattle.dayformat.specs.declared.form.Tag.the-variants.{Shipper}
 use Rattle.dayformat.specs.Layout.{count}
-use Rattle.numbershares.proofs.Columns.{EachAccepted, each-accepted, few-rows, part-is, part-inside, part-long, table-is}
+use Rattle.numbershares.proofs.Columns.{ColumnsAccepted, columns-accepted, few-rows, part-is, part-inside, part-long, table-is}
 use borrow.Author.Needs.{needs}
 use Rattle.numbershares.proofs.share_columns.Statement.{statement}
 use Rattle.numbershares.proofs.share_columns.Tie as tie
@@ -14,8 +14,8 @@ cast-rows c = search needs
 abbrev start-of : tie.After-struct-known → tie.Start
 start-of c = c .before .before .before .before .before .before .before
 
-each-of : (c : tie.After-struct-known) → EachAccepted (start-of c .args .day .counts) (start-of c .args .numbers .now)
-each-of c = each-accepted (start-of c .args .day) (start-of c .args .numbers .now) (start-of c .pre)
+each-of : (c : tie.After-struct-known) → ColumnsAccepted (start-of c .args .day .counts) (start-of c .args .numbers .now)
+each-of c = columns-accepted (start-of c .args .day) (start-of c .args .numbers .now) (start-of c .pre)
 
 few-of : (c : tie.After-struct-known) → count (start-of c .args .day .counts) Shipper ≤ most-rows
 few-of c = few-rows (start-of c .args .day .counts) (start-of c .args .numbers .now) (each-of c)

@@ -1,8 +1,8 @@
 -- Each day's figures are tested in turn.
 use Prim.Native.Nat.{_-_}
+use Rattle.units.proofs.Testing.{Testing, testing-none, testing-next, testing-all}
 use Rattle.month.specs.Figures.{figures-check}
 use Rattle.month.specs.Account.{day-at}
-use Rattle.month.proofs.Testing.{Testing, testing-none, testing-next, testing-all}
 use borrow.Author.Needs.{needs}
 use Rattle.month.proofs.examine.examine_figures.Statement.{statement}
 use Rattle.month.proofs.examine.examine_figures.Tie as tie

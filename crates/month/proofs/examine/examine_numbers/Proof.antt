@@ -1,8 +1,8 @@
 -- Each day is compared in turn with the one before it.
 use Prim.Native.Nat.{_-_}
+use Rattle.units.proofs.Testing.{Testing, testing-none, testing-next, testing-all}
 use Rattle.month.specs.Days.{later}
 use Rattle.month.specs.Account.{day-at}
-use Rattle.month.proofs.Testing.{Testing, testing-none, testing-next, testing-all}
 use borrow.Author.Needs.{needs}
 use Rattle.month.proofs.examine.examine_numbers.Statement.{statement}
 use Rattle.month.proofs.examine.examine_numbers.Tie as tie

@@ -20,22 +20,22 @@ loop-holds c = handing-none _ (c .empty .ensures)
 take-row-requires : tie.Need-take-row-requires Inv-loop μ-loop
 take-row-requires c κs = search needs
 
-enum-known-found : tie.Need-enum-known-found Inv-loop μ-loop
-enum-known-found c = search needs
+enum-told : tie.Need-enum-told Inv-loop μ-loop
+enum-told c = search needs
 
-at-row-requires : tie.Need-at-row-requires Inv-loop μ-loop
-at-row-requires c κs = search needs
+placed-requires : tie.Need-placed-requires Inv-loop μ-loop
+placed-requires c κs = search needs
 
 returns : tie.Need-returns Inv-loop μ-loop
 returns c =
-    let found = c .before .before in
-    let taken = found .before .before in
+    let told = c .before in
+    let taken = told .before .before in
     let turn = taken .before in
-    handing-stops _ (turn .before .loop .inv) (turn .loop-test .taken) (taken .take-row .ensures) (found .found .given .1)
-    (c .at-row .ensures)
+    handing-stops _ (turn .before .loop .inv) (turn .loop-test .taken) (taken .take-row .ensures) (told .enum-told .given .1)
+    (c .placed .ensures)
 
-enum-told : tie.Need-enum-told Inv-loop μ-loop
-enum-told c = search needs
+enum-told-2 : tie.Need-enum-told-2 Inv-loop μ-loop
+enum-told-2 c = search needs
 
 add-row : tie.Need-add-row Inv-loop μ-loop
 add-row c = search needs
@@ -48,7 +48,7 @@ loop-again c =
     let told = c .before in
     let taken = told .before .before in
     let turn = taken .before in
-    handing-next _ (turn .before .loop .inv) (turn .loop-test .taken) (taken .take-row .ensures) (told .enum-told .given .1)
+    handing-next _ (turn .before .loop .inv) (turn .loop-test .taken) (taken .take-row .ensures) (told .enum-told2 .given .1)
 
 returns-2 : tie.Need-returns-2 Inv-loop μ-loop
 returns-2 c = handing-all _ (c .before .loop .inv) (c .loop-test .left)
@@ -62,10 +62,10 @@ hand-in-spec =
     empty-requires
     loop-holds
     take-row-requires
-    enum-known-found
-    at-row-requires
-    returns
     enum-told
+    placed-requires
+    returns
+    enum-told-2
     add-row
     loop-less
     loop-again

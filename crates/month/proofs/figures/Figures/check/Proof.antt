@@ -4,8 +4,8 @@ use Prim.Native.Nat.{_-_}
 use lib.Dec.{leb}
 use Rattle.columns.specs.Column.{col}
 use Rattle.units.specs.Refusals.{keep}
+use Rattle.units.proofs.Testing.{Testing, testing-none, testing-next, testing-all}
 use Rattle.month.specs.Figures.{figures-check}
-use Rattle.month.proofs.Testing.{Testing, testing-none, testing-next, testing-all}
 use borrow.Author.Needs.{needs}
 use Rattle.month.proofs.figures.Figures.check.Statement.{statement}
 use Rattle.month.proofs.figures.Figures.check.Tie as tie
