@@ -114,6 +114,22 @@ uint64_t cormcushion_overruns(uint32_t rate, uint32_t p, uint32_t m, const uint6
                               const uint64_t received[24], const uint32_t schedules[4], const uint64_t metered[2],
                               uint64_t overruns[5]);
 
+/* A day's whole energies and volumes from a flow computer's readings.
+ * Reads:    for each hour its kind, 0 measured, 1 substituted, 2 missing, and two numbers: of a measured hour the volume in cubic
+ *           metres and the heating value in megajoules per cubic metre; of a substituted one the energy in megajoules, the second
+ *           being passed over; of a missing one both are.
+ * Writes:   each hour's energy in whole megajoules, which is what cormcushion_overruns takes, and its volume in whole cubic metres,
+ *           both rounded down; to `volume` the sum of the whole volumes. A substituted hour has volume 0, a missing one the energy
+ *           and the volume of the hour before it.
+ * Figure:   the sum of the whole energies.
+ * Refuses:  the earliest hour at fault, at the hour from 0: 3 where a number that counts is not a number, infinite or below zero
+ *           (minus zero is zero), where a volume, a product or an energy is 100,000,001 or more, and for any other kind; 5 at 0 for a
+ *           first hour that is missing.
+ * Asks:     that the processor rounds to nearest and takes subnormal numbers as they are, as it does unless a program has set it
+ *           otherwise (fesetround, -ffast-math). */
+uint64_t cormcushion_readings(const uint8_t kinds[24], const double firsts[24], const double seconds[24], uint64_t energies[24],
+                              uint64_t volumes[24], uint64_t *volume);
+
 #ifdef __cplusplus
 }
 #endif

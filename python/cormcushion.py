@@ -14,6 +14,7 @@ import ctypes
 import os
 import pathlib
 from array import array
+from numbers import Real
 from typing import NamedTuple
 
 OVERRUN_RATE = 359_000
@@ -28,6 +29,8 @@ _ONE_NUMBER = 10**15
 _MOST_TEXT = 16_384
 # A day of a month: its own number and seven figures.
 _DAY_NUMBERS = 8
+# The kinds of an hour's reading.
+_MEASURED, _SUBSTITUTED, _MISSING = range(3)
 
 
 class Refusal(Exception):
@@ -63,6 +66,15 @@ class Overruns(NamedTuple):
     cents: int
 
 
+class DayGas(NamedTuple):
+    """A day's whole energies in megajoules and whole volumes in cubic metres, hour by hour, and the sum of either."""
+
+    energies: list
+    volumes: list
+    energy: int
+    volume: int
+
+
 def _typed(name, *types):
     """A function of the library, each of whose answers is one packed number."""
     function = getattr(_library, name)
@@ -79,6 +91,7 @@ _list_points = _typed("cormcushion_list_points", ctypes.c_char_p, ctypes.c_size_
 _month_statement = _typed("cormcushion_month_statement", *_LIST * 2)
 _share_day = _typed("cormcushion_share_day", *[ctypes.c_uint32] * 2, *_LIST * 8, ctypes.c_void_p)
 _overruns = _typed("cormcushion_overruns", *[ctypes.c_uint32] * 3, *[ctypes.c_void_p] * 6)
+_readings = _typed("cormcushion_readings", *[ctypes.c_void_p] * 6)
 
 
 def _figure(answer):
@@ -105,17 +118,32 @@ def _lent(figures):
     return figures.buffer_info()
 
 
-def _counted(figures, count):
-    """Numbers of 64 bits, as many as stated, else 01's 9."""
-    spread = [*figures]
+def _spread(items, count):
+    """A list of as many as stated, else 01's 9."""
+    spread = [*items]
     if len(spread) != count:
         raise Refusal(9, 0)
-    return _wide(spread)
+    return spread
+
+
+def _counted(figures, count):
+    """Numbers of 64 bits, as many as stated."""
+    return _wide(_spread(figures, count))
 
 
 def _one(figure):
     """A single figure that fits its width."""
     return _narrow([figure])[0]
+
+
+def _reading(hour):
+    """An hour as the library takes it: its kind, and two numbers."""
+    if hour is None:
+        return _MISSING, 0.0, 0.0
+    if isinstance(hour, Real):
+        return _SUBSTITUTED, hour, 0.0
+    volume, heating_value = hour
+    return _MEASURED, volume, heating_value
 
 
 def _text(listing, *arguments):
@@ -188,3 +216,19 @@ def overruns(p, m, yesterday, delivered, received, schedules, metered, rate=OVER
     places = [_lent(figures)[0] for figures in (*hours, *sides, lent)]
     cents = _figure(_overruns(_one(rate), _one(p), _one(m), *places))
     return Overruns(*lent, cents)
+
+
+def readings(hours):
+    """A day's whole energies and volumes from a flow computer's 24 readings.
+
+    An hour is a pair, cubic metres and megajoules per cubic metre; or a number, the energy in megajoules that was put in its place;
+    or None where nothing was read, and then it has the energy and the volume of the hour before it. The energies are what overruns
+    takes. The earliest hour at fault is refused, at the hour from 0. Before any is looked at, more or fewer hours than 24 are refused
+    by 9 at 0, and a pair of something else than two numbers is a TypeError or a ValueError.
+    """
+    kinds, firsts, seconds = zip(*map(_reading, _spread(hours, 24)))
+    given = [array("B", kinds), array("d", firsts), array("d", seconds)]
+    lent = [_wide([0] * 24), _wide([0] * 24), _wide([0])]
+    energy = _figure(_readings(*[_lent(figures)[0] for figures in (*given, *lent)]))
+    energies, volumes, (volume,) = map(list, lent)
+    return DayGas(energies, volumes, energy, volume)

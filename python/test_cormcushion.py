@@ -24,6 +24,8 @@ import month
 import monthcases
 import overruncases
 import overruns
+import readingcases
+import readings
 import refusals
 import sharecases
 import tariff
@@ -39,6 +41,7 @@ def named(routines, name):
 DAY_ROUTINE = named(sharecases.ROUTINES, "share_day")
 OVERRUN_ROUTINE = named(overruncases.ROUTINES, "overruns_of_day")
 MONTH_ROUTINE = named(monthcases.ROUTINES, "list_month")
+READING_ROUTINE = named(readingcases.ROUTINES, "meter_day")
 
 # What the library can be asked: numbers that fit their widths.
 NARROW, WIDE = 2**32, 2**64
@@ -81,6 +84,35 @@ def second_charges(file, rate):
 
 def second_month_statement(days):
     return month.list_month([number for day in days for number in day])
+
+
+def second_readings(hours):
+    kinds = {tuple: lambda hour: readings.Measured(*hour), float: readings.Substituted}
+    day = readings.meter_day([readings.Missing() if hour is None else kinds[type(hour)](hour) for hour in hours])
+    return list(day.energies), list(day.volumes), day.energy, day.volume
+
+
+def hour_of(given):
+    """An hour of the second program's cases as Python's callers give it."""
+    first, second = map(readingcases.number_of, given[1:])
+    return {readings.MEASURED: (first, second), readings.SUBSTITUTED: first, readings.MISSING: None}[given.kind]
+
+
+def lent_readings(hours):
+    """What the library makes of kinds and numbers, told as a case's answer is; a refusal has to leave what is lent as it was."""
+    kinds, firsts, seconds = zip(*hours)
+    given = [array("B", kinds), *(array("d", map(readingcases.number_of, numbers)) for numbers in (firsts, seconds))]
+    lent = [array("Q", range(24)), array("Q", range(24, 48)), array("Q", [48])]
+    before = [*map(list, lent)]
+    packed = cormcushion._readings(*[cormcushion._lent(figures)[0] for figures in (*given, *lent)])
+    try:
+        energy = cormcushion._figure(packed)
+    except cormcushion.Refusal as refusal:
+        zeros = [0] * 24
+        kept = before == [*map(list, lent)]
+        return [refusal.number, refusal.place, 0, 0, ":", *zeros, ":", *zeros] if kept else "written to"
+    energies, volumes, (volume,) = lent
+    return [0, 0, energy, volume, ":", *energies, ":", *volumes]
 
 
 def lent_words(numbers, room):
@@ -273,6 +305,63 @@ class Months(Held):
         refused = [told for told in answers if isinstance(told, tuple)]
         self.assertEqual({3, 5}, {number for _, number, _ in refused})
         self.assertLess(len(refused), len(answers))
+
+
+class Readings(Held):
+    def metered(self, hours):
+        """What both programs make of a day."""
+        return self.held(cormcushion.readings, second_readings, hours)
+
+    def test_worked_figures(self):
+        measured = (1_000.5, 37.9)
+        energies, volumes, energy, volume = self.metered([measured, 500.75, None, *[measured] * 21])
+        self.assertEqual(([37_918, 500, 500, 37_918], [1_000, 0, 0, 1_000]), (energies[:4], volumes[:4]))
+        self.assertEqual((835_196, 22_000), (energy, volume))
+
+    def test_cases(self):
+        """The cases' own: kinds that no hour has, and what a refusal leaves."""
+        cases = filecases.cases_of(READING_ROUTINE)
+        answers = [lent_readings(*case) for case in cases]
+        self.assertEqual([readingcases.words_of(READING_ROUTINE, case) for case in cases], answers)
+        self.assertEqual({0, 3, 5}, {number for number, *_ in answers})
+
+    def test_cases_as_hours(self):
+        known = [hours for (hours,) in filecases.cases_of(READING_ROUTINE) if max(hour.kind for hour in hours) < 3]
+        self.assertLess(200, len(known))
+        for hours in known:
+            self.metered([hour_of(hour) for hour in hours])
+
+    def test_days(self):
+        chance = Random(f"{SEED} readings")
+        for faults in (0, 0, 1, 2) * 50:
+            hours = readingcases.some_faulty_day(chance, faults)
+            if max(hour.kind for hour in hours) < 3:
+                self.metered([hour_of(hour) for hour in hours])
+
+    def test_hours_of_another_number(self):
+        for hours in (0, 1, 23, 25, 48):
+            refused = answer(cormcushion.Refusal, cormcushion.readings, ["no reading"] * hours)
+            self.assertEqual(("REFUSED", 9, 0), refused)
+
+    def test_whole_numbers(self):
+        """They are readings too, up to the greatest that a double holds."""
+        self.assertEqual(cormcushion.readings([(2.0, 3.0), 7.0] * 12), cormcushion.readings([(2, 3), 7] * 12))
+        for hour in (10**400, (10**400, 1)):
+            with self.assertRaises(OverflowError):
+                cormcushion.readings([hour] * 24)
+
+    def test_no_reading(self):
+        for hour in ("12", (1.0, None), ("1", 2.0), b"ab" * 2, object()):
+            with self.assertRaises((TypeError, ValueError)):
+                cormcushion.readings([hour] * 24)
+
+    def test_straight_to_the_overruns(self):
+        """Whatever was read, no hour is refused there."""
+        chance = Random(f"{SEED} metered")
+        for _ in range(20):
+            sides = [cormcushion.readings(map(hour_of, readingcases.some_day(chance))).energies for _ in range(2)]
+            yesterday = cormcushion.readings(map(hour_of, readingcases.some_day(chance))).energies[13:]
+            self.held(cormcushion.overruns, second_overruns, 900, 1_000, yesterday, *sides, (9, 8, 7, 6), (5, 4), 359_000)
 
 
 if __name__ == "__main__":

@@ -1,4 +1,4 @@
-"""01's bounds and that of C-11, each as the range of the whole numbers it allows."""
+"""01's bounds and those of C-11 and C-12, each as the range of the whole numbers it allows."""
 
 
 def up_to(greatest):
@@ -15,6 +15,9 @@ BACKHAUL_METERED = up_to(2_400_000_000)
 SYSTEM_USE = up_to(1_000_000_000)
 ACCUMULATED_IMBALANCE = range(-1_000_000_000, 1_000_000_001)
 CHARGEABLE_OVERRUN = up_to(28_800_000_000)
+
+# Cubic metres: an hour's volume.
+CUBIC_METRES = up_to(100_000_000)
 
 REQUESTS = up_to(1_000)
 RATE = up_to(100_000_000)

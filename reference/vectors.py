@@ -20,6 +20,7 @@ import hourcases
 import metercases
 import monthcases
 import overruncases
+import readingcases
 import rowcases
 import sharecases
 import textcases
@@ -73,6 +74,12 @@ PROGRAMS = (
         monthcases.ROUTINES,
         filecases.cases_of,
         monthcases.words_of,
+    ),
+    Program(
+        "readingvectors",
+        readingcases.ROUTINES,
+        filecases.cases_of,
+        readingcases.words_of,
     ),
 )
 

@@ -20,6 +20,10 @@ use Rattle.lines.proofs.Decided.{listed-placed}
 use Rattle.monthlisting.specs.Rows.{month-check, month-listing}
 use Rattle.monthlisting.proofs.Decided.{month-decided, month-placed}
 use Rattle.monthlisting.proofs.Sizes as month-sizes
+use Rattle.readings.specs.declared.hour.HourReading.{HourReading}
+use Rattle.readings.specs.Day.{metered-answer, metered-verdict}
+use Rattle.readings.proofs.Promises.{gas-kept, sums-kept}
+use Rattle.readings.proofs.Decided.{readings-placed, metered-decided}
 use Rattle.daytable.specs.Table.{Table}
 use Rattle.daytable.proofs.Accepting.{accepting}
 use Rattle.daytable.proofs.Decided.{table-placed}
@@ -44,6 +48,7 @@ use Rattle.cormcushion.specs.Packed.{packed-check, Unpacks}
 use Rattle.cormcushion.specs.Answers.{of-listing, of-reading, of-round, of-shares}
 use Rattle.cormcushion.specs.Lent.{ListingPacked, ReadingPacked, RoundPacked, SharesPacked}
 use Rattle.cormcushion.specs.Meter.{shipper-day, charge-check, charge-cents, ChargePacked}
+use Rattle.cormcushion.specs.Metering.{of-metered, DayGasPacked}
 use Rattle.cormcushion.proofs.ChargeTests.{charge-numbered, charge-placed, charge-packs, charge-most}
 use Rattle.cormcushion.proofs.Unpacking.{most-figure, found-reads, answer-reads}
 
@@ -123,3 +128,12 @@ charge-reads rate p m yesterday delivered received schedules metered C =
     found-reads (checked (charge-numbered rate p m yesterday delivered received schedules metered) refl) (λ none. charge-cents rate D)
     (charge-placed rate p m yesterday delivered received schedules metered) (omega arith)
     (λ accepted. omega (arith, charge-most rate D accepted)) (C .answers ∙ charge-packs rate D)
+
+-- ---- a day of readings: the sum of its energies
+pub readings-reads : {readings : List HourReading} {energies volumes energies-after volumes-after : List ℕ}
+    {volume packed volume-after : ℕ} (G : DayGasPacked readings energies volumes volume packed energies-after volumes-after volume-after)
+    → Unpacks packed (metered-verdict (G .day)) (λ gas. gas .energy .0)
+readings-reads {readings} G =
+    answer-reads (metered-decided readings (G .answers)) (λ gas. gas .energy .0) (readings-placed readings) (omega arith)
+    (λ accepted. omega (arith, sums-kept (gas-kept readings accepted) .0))
+    metered-answer of-metered refl (λ refusal. refl) (G .answers) (G .packs)

@@ -3,9 +3,13 @@ use mathlib.Core.Path.{_≡_, sym, ap, _∙_}
 use mathlib.Core.List.{List}
 use Prim.Native.Nat.{ℕ}
 use Rattle.units.specs.declared.refusal.Check.{Check}
+use Rattle.units.specs.Refusals.{accepted-or}
 use Rattle.units.proofs.Determined.{determined}
 use Rattle.rounds.proofs.Determined.{round-determined}
 use Rattle.lines.proofs.Determined.{listed-determined}
+use Rattle.metered.specs.Hours.{bare-hours}
+use Rattle.readings.specs.declared.hour.HourReading.{HourReading}
+use Rattle.readings.specs.Day.{bare-volumes}
 use Rattle.daytable.specs.Table.{Table}
 use Rattle.overruns.specs.Day.{ShipperDay}
 use Rattle.dayshares.proofs.Determined.{day-determined}
@@ -13,6 +17,7 @@ use Rattle.dayfile.proofs.Determined.{reading-determined}
 use Rattle.cormcushion.specs.Answers.{of-listing, of-reading, of-round, of-shares, with-day, with-levels}
 use Rattle.cormcushion.specs.Lent.{ListingPacked, ReadingPacked, RoundPacked, SharesPacked}
 use Rattle.cormcushion.specs.Meter.{ChargePacked}
+use Rattle.cormcushion.specs.Metering.{of-metered, DayGasPacked}
 
 -- what is computed from equal answers is equal
 same : {X Y : Type 0} {x y : X} {a b : Y} (f : X → Y) → a ≡ f x → b ≡ f y → x ≡ y → a ≡ b
@@ -54,3 +59,14 @@ packed-shares-determined {levels = levels} a b =
 pub charge-determined : {rate : ℕ} {D : ShipperDay} {lent l₁ l₂ : List ℕ} {p₁ p₂ : ℕ}
     → ChargePacked rate D lent p₁ l₁ → ChargePacked rate D lent p₂ l₂ → (p₁ ≡ p₂) × (l₁ ≡ l₂)
 charge-determined a b = (determined (a .answers) (b .answers), determined (a .leaves) (b .leaves))
+
+pub gas-determined : {readings : List HourReading} {energies volumes e₁ e₂ v₁ v₂ : List ℕ} {volume p₁ p₂ s₁ s₂ : ℕ}
+    → DayGasPacked readings energies volumes volume p₁ e₁ v₁ s₁ → DayGasPacked readings energies volumes volume p₂ e₂ v₂ s₂
+    → (p₁ ≡ p₂) × (e₁ ≡ e₂) × (v₁ ≡ v₂) × (s₁ ≡ s₂)
+gas-determined {energies = energies} {volumes} {volume = volume} a b =
+    let is = determined (a .answers) (b .answers) in (
+      same of-metered (a .packs) (b .packs) is,
+      same (λ day. accepted-or (day .found) (bare-hours (day .gas .energies)) energies) (a .leaves-energies) (b .leaves-energies) is,
+      same (λ day. accepted-or (day .found) (bare-volumes (day .gas .volumes)) volumes) (a .leaves-volumes) (b .leaves-volumes) is,
+      same (λ day. accepted-or (day .found) (day .gas .volume .0) volume) (a .leaves-volume) (b .leaves-volume) is,
+    )

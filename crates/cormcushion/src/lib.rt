@@ -4,6 +4,7 @@ mod capacity;
 mod day;
 mod hours;
 mod meter;
+mod metering;
 mod packed;
 mod texts;
 
@@ -12,6 +13,7 @@ pub use capacity::cormcushion_share_round;
 pub use day::cormcushion_check_day;
 pub use day::cormcushion_read_day;
 pub use meter::cormcushion_overruns;
+pub use metering::cormcushion_readings;
 pub use texts::cormcushion_list_charges;
 pub use texts::cormcushion_list_points;
 pub use texts::cormcushion_list_shares;

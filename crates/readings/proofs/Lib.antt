@@ -1,0 +1,9 @@
+pub mod Bits
+pub mod Comparing
+pub mod Largest
+pub mod Shifting
+pub mod Hours
+pub mod Days
+pub mod Promises
+pub mod Decided
+pub mod Worked

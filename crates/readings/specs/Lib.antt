@@ -1,0 +1,5 @@
+pub mod Number
+pub mod Hour
+pub mod Day
+pub mod Promise
+pub mod Private
