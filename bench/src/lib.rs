@@ -1,9 +1,10 @@
-//! Document 01's rules in plain Rust, written for speed alone. Nothing here is proved.
+//! Document 01's rules, and a flow computer's readings, in plain Rust, written for speed alone. Nothing here is proved.
 
 pub mod dayfile;
 pub mod dayshares;
 pub mod listing;
 pub mod overruns;
+pub mod readings;
 pub mod rounds;
 
 /// Rows in any list of shippers.

@@ -4,6 +4,7 @@ use plain::dayfile::{read_day, MOST_NUMBERS};
 use plain::dayshares::{share_day, Table};
 use plain::listing::list_shares;
 use plain::overruns::{charge, overruns, Meter};
+use plain::readings::{meter_day, DayGas, Readings};
 use plain::rounds::share_round;
 use plain::{Answer, Refusal};
 use std::process::Command;
@@ -91,26 +92,52 @@ fn answer_overruns(words: &mut Words) -> String {
     line("overruns_of_day", overruns(&meter).map(|over| over.to_vec()), &[])
 }
 
-#[test]
-fn stored_cases() {
-    let input = std::fs::read(format!("{REPOSITORY}/crates/vectors/stdin")).unwrap();
-    let output = std::fs::read_to_string(format!("{REPOSITORY}/crates/vectors/stdout")).unwrap();
+/// Of a refused day the stored answers have zeros.
+fn answer_readings(words: &mut Words) -> String {
+    let mut readings = Readings { kinds: [0; 24], firsts: [0.0; 24], seconds: [0.0; 24] };
+    for hour in 0..24 {
+        readings.kinds[hour] = words.word() as u8;
+        readings.firsts[hour] = f64::from_bits(words.wide());
+        readings.seconds[hour] = f64::from_bits(words.wide());
+    }
+    let mut day = DayGas::default();
+    let energy = meter_day(&readings, &mut day);
+    let sums = [energy.unwrap_or(0), day.volume];
+    let refused = energy.map_or_else(|Refusal { number, place }| [number as u64, place as u64], |_| [0, 0]);
+    let told = |figures: &[u64]| figures.iter().map(|figure| format!(" {figure}")).collect::<String>();
+    format!("meter_day{}{} :{} :{}", told(&refused), told(&sums), told(&day.energies), told(&day.volumes))
+}
+
+/// The stored cases of a program whose routines are answered here.
+fn compare_cases(program: &str, answer: impl Fn(u32, &mut Words) -> Option<String>) {
+    let input = std::fs::read(format!("{REPOSITORY}/crates/{program}/stdin")).unwrap();
+    let output = std::fs::read_to_string(format!("{REPOSITORY}/crates/{program}/stdout")).unwrap();
     let input: Vec<u32> = input.chunks_exact(4).map(|word| u32::from_be_bytes(word.try_into().unwrap())).collect();
     let (mut rest, mut compared) = (&input[..], 0);
     for expected in output.lines() {
         let (case, later) = rest[1..].split_at(rest[0] as usize);
         rest = later;
-        let mut words = Words(case[1..].iter());
-        let answer = match case[0] {
-            1 => answer_round(&mut words),
-            2 => answer_day(&mut words),
-            10 => answer_overruns(&mut words),
-            _ => continue,
-        };
-        assert_eq!(expected, answer);
-        compared += 1;
+        if let Some(answer) = answer(case[0], &mut Words(case[1..].iter())) {
+            assert_eq!(expected, answer);
+            compared += 1;
+        }
     }
-    assert!(compared > 100, "only {compared} stored cases are of these routines");
+    assert!(compared > 100, "only {compared} stored cases of {program} are of these routines");
+}
+
+#[test]
+fn stored_cases() {
+    compare_cases("vectors", |routine, words| match routine {
+        1 => Some(answer_round(words)),
+        2 => Some(answer_day(words)),
+        10 => Some(answer_overruns(words)),
+        _ => None,
+    });
+}
+
+#[test]
+fn stored_readings() {
+    compare_cases("readingvectors", |_, words| Some(answer_readings(words)));
 }
 
 fn text_of(file: &[u8]) -> String {

@@ -6,6 +6,7 @@ use plain::dayfile::{read_day, MOST_NUMBERS};
 use plain::dayshares::share_day;
 use plain::listing::list_shares;
 use plain::overruns::charge;
+use plain::readings::{meter_day, DayGas};
 use plain::rounds::share_round;
 
 /// What a lent list holds before a call, so that what is written and what is kept both show.
@@ -89,6 +90,38 @@ fn meter(chance: &mut Chance) {
     assert_eq!(theirs, ours);
 }
 
+/// Numbers about whole ones and the bound, below zero, and by any bits.
+fn number(chance: &mut Chance) -> f64 {
+    let whole = chance.some(100_000_001) as f64;
+    match chance.up_to(7) {
+        0 => f64::from_bits(chance.up_to(u64::MAX - 1)),
+        1 => f64::from_bits(0x7FF0_0000_0000_0000 + chance.some(1 << 52)),
+        2 => f64::from_bits(chance.some(1 << 53)),
+        3 => -f64::from_bits(chance.some(2)),
+        4 => f64::from_bits(whole.to_bits() + 1),
+        5 => f64::from_bits((whole + 1.0).to_bits() - 1),
+        _ => whole,
+    }
+}
+
+fn readings(chance: &mut Chance) {
+    let mut readings = inputs::readings(chance);
+    let most = if chance.one_in(3) { 30 } else { 999 };
+    for hour in 0..24 {
+        match chance.up_to(most) {
+            0 => readings.kinds[hour] = chance.some(255) as u8,
+            1 | 2 => readings.firsts[hour] = number(chance),
+            3 => readings.seconds[hour] = number(chance),
+            4 => (readings.firsts[hour], readings.seconds[hour]) = (number(chance), 1.0),
+            5 => (readings.firsts[hour], readings.seconds[hour]) = (3.0, 1.0 / 3.0),
+            _ => {}
+        }
+    }
+    let [mut ours, mut theirs] = [DayGas { energies: [u64::MAX; 24], volumes: [u64::MAX; 24], volume: u64::MAX }; 2];
+    assert_eq!(meter_day(&readings, &mut theirs), library::meter_day(&readings, &mut ours));
+    assert_eq!(theirs, ours);
+}
+
 /// Every table with all of its rows, one too many, or some.
 fn counts(chance: &mut Chance) -> inputs::Counts {
     let part = [0, 2, 10, 64, 64][chance.up_to(4) as usize];
@@ -124,7 +157,7 @@ fn file(chance: &mut Chance) {
 pub fn compare(turns: usize) {
     let chance = &mut Chance::new();
     for _ in 0..turns {
-        [round, day, meter, file].iter().for_each(|compared| compared(chance));
+        [round, day, meter, readings, file].iter().for_each(|compared| compared(chance));
     }
-    println!("compared: {turns} rounds, days, meters and files each, with no difference");
+    println!("compared: {turns} rounds, days, meters, readings and files each, with no difference");
 }

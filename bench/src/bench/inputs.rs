@@ -1,8 +1,9 @@
-//! Rounds, days, meters and day files by chance.
+//! Rounds, days, meters, readings and day files by chance.
 
 use crate::chance::Chance;
 use plain::dayshares::Table;
 use plain::overruns::Meter;
+use plain::readings::Readings;
 
 const GIGAJOULES: u64 = 1_000_000;
 const MEGAJOULES: u64 = 100_000_000;
@@ -90,6 +91,18 @@ pub fn meter(chance: &mut Chance) -> Meter {
         received: std::array::from_fn(|_| chance.up_to(most)),
         schedules: std::array::from_fn(|_| chance.some(GIGAJOULES) as u32),
         metered: std::array::from_fn(|_| chance.some(BACKHAUL)),
+    }
+}
+
+/// A day of hours as flow computers send them: most measured, some substituted or missing, but for the first.
+pub fn readings(chance: &mut Chance) -> Readings {
+    let mut kinds = std::array::from_fn(|_| [0, 0, 0, 0, 0, 0, 1, 2][chance.up_to(7) as usize]);
+    kinds[0] = 0;
+    let most = [1_000, 100_000, 1_000_000][chance.up_to(2) as usize];
+    Readings {
+        kinds,
+        firsts: std::array::from_fn(|_| chance.up_to(most * 1_024) as f64 / 1_024.0),
+        seconds: std::array::from_fn(|_| 30.0 + chance.up_to(1_000_000) as f64 / 100_000.0),
     }
 }
 

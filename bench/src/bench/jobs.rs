@@ -7,6 +7,7 @@ use plain::dayfile::{read_day, MOST_BYTES, MOST_NUMBERS};
 use plain::dayshares::share_day;
 use plain::listing::list_shares;
 use plain::overruns::charge;
+use plain::readings::{meter_day, DayGas};
 use plain::rounds::share_round;
 use std::hint::black_box;
 
@@ -102,6 +103,26 @@ pub fn meters() -> Job {
     }
 }
 
+/// All days of readings in a turn.
+pub fn readings() -> Job {
+    let chance = &mut Chance::new();
+    let days = made(|| inputs::readings(chance));
+    let [mut ours, mut plain] = [DayGas::default(); 2];
+    Job {
+        name: format!("{INPUTS} days of readings"),
+        ours: Box::new(move |_| {
+            for day in days {
+                _ = black_box(library::meter_day(day, black_box(&mut ours)));
+            }
+        }),
+        plain: Box::new(move |_| {
+            for day in days {
+                _ = black_box(meter_day(day, black_box(&mut plain)));
+            }
+        }),
+    }
+}
+
 /// Files whose every table has a part of its rows.
 pub fn listings(rows: usize) -> Job {
     let chance = &mut Chance::new();
@@ -123,5 +144,5 @@ pub fn listings(rows: usize) -> Job {
 
 /// The jobs of the table.
 pub fn all() -> Vec<Job> {
-    vec![rounds(64), days(64), full_files(), meters(), listings(64)]
+    vec![rounds(64), days(64), full_files(), meters(), readings(), listings(64)]
 }

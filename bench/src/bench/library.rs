@@ -3,6 +3,7 @@
 use plain::dayfile::Day;
 use plain::dayshares::Table;
 use plain::overruns::{Meter, Overruns};
+use plain::readings::{DayGas, Readings};
 use plain::{Answer, Refusal};
 
 extern "C" {
@@ -49,6 +50,14 @@ extern "C" {
         schedules: *const u32,
         metered: *const u64,
         overruns: *mut u64,
+    ) -> u64;
+    fn cormcushion_readings(
+        kinds: *const u8,
+        firsts: *const f64,
+        seconds: *const f64,
+        energies: *mut u64,
+        volumes: *mut u64,
+        volume: *mut u64,
     ) -> u64;
 }
 
@@ -139,6 +148,19 @@ pub fn charge(rate: u32, meter: &Meter, lent: &mut Overruns) -> Answer<u64> {
             meter.schedules.as_ptr(),
             meter.metered.as_ptr(),
             lent.as_mut_ptr(),
+        )
+    })
+}
+
+pub fn meter_day(readings: &Readings, lent: &mut DayGas) -> Answer<u64> {
+    unpacked(unsafe {
+        cormcushion_readings(
+            readings.kinds.as_ptr(),
+            readings.firsts.as_ptr(),
+            readings.seconds.as_ptr(),
+            lent.energies.as_mut_ptr(),
+            lent.volumes.as_mut_ptr(),
+            &mut lent.volume,
         )
     })
 }
