@@ -2,8 +2,8 @@
 
 `bash callers/build` makes the shared object, target/callers/libcormcushion.so, which is for x86-64. Another place for it can be
 named by the environment's CORMCUSHION_LIBRARY. Every function either answers or raises Refusal with 01's number and place. A figure
-that is no whole number from 0 up to the greatest of its width is no input at all: OverflowError or TypeError. Nor is a file that is
-no bytes object: ctypes.ArgumentError.
+that is no whole number from 0 up to the greatest of its width, but for readings, which are floats, is no input at all:
+OverflowError or TypeError. Nor is a file that is no bytes object: ctypes.ArgumentError.
 
 Functions may be called from several threads and run side by side: ctypes gives up the interpreter's lock for a call, and each call
 copies the lists that it is given and has room of its own for what is written. A thread needs 128 kB of stack free for a function that
@@ -224,7 +224,7 @@ def readings(hours):
     An hour is a pair, cubic metres and megajoules per cubic metre; or a number, the energy in megajoules that was put in its place;
     or None where nothing was read, and then it has the energy and the volume of the hour before it. The energies are what overruns
     takes. The earliest hour at fault is refused, at the hour from 0. Before any is looked at, more or fewer hours than 24 are refused
-    by 9 at 0, and a pair of something else than two numbers is a TypeError or a ValueError.
+    by 9 at 0; an hour that is none of the three is a TypeError or a ValueError, a whole number beyond every float an OverflowError.
     """
     kinds, firsts, seconds = zip(*map(_reading, _spread(hours, 24)))
     given = [array("B", kinds), array("d", firsts), array("d", seconds)]

@@ -358,10 +358,12 @@ class Readings(Held):
     def test_straight_to_the_overruns(self):
         """Whatever was read, no hour is refused there."""
         chance = Random(f"{SEED} metered")
-        for _ in range(20):
-            sides = [cormcushion.readings(map(hour_of, readingcases.some_day(chance))).energies for _ in range(2)]
-            yesterday = cormcushion.readings(map(hour_of, readingcases.some_day(chance))).energies[13:]
-            self.held(cormcushion.overruns, second_overruns, 900, 1_000, yesterday, *sides, (9, 8, 7, 6), (5, 4), 359_000)
+        days = [[hour_of(hour) for hour in readingcases.some_day(chance)] for _ in range(20)]
+        greatest = [(100_000_000.9, 1.0)] * 24
+        for delivered, received in zip([*days, greatest], [greatest, *days]):
+            sides = [cormcushion.readings(hours).energies for hours in (delivered, received)]
+            figures = (sides[1][13:], *sides, (9, 8, 7, 6), (5, 4), 359_000)
+            self.assertNotEqual("REFUSED", self.held(cormcushion.overruns, second_overruns, 900, 1_000, *figures)[0])
 
 
 if __name__ == "__main__":

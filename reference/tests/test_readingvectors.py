@@ -29,7 +29,8 @@ class ReadingVectors(CasesTest, unittest.TestCase):
     def test_places(self):
         """The first hours, a middle one and the last are refused, and others."""
         for routine, cases in self.cases:
-            places = {self.program.words_of(routine, case)[1] for case, _ in cases}
+            answers = [self.program.words_of(routine, case) for case, _ in cases]
+            places = {place for number, place, *_ in answers if number}
             self.assertLessEqual({0, 1, 4, 5, 11, 23}, places)
 
     def test_kinds(self):

@@ -48,7 +48,7 @@ use Rattle.cormcushion.specs.Packed.{packed-check, Unpacks}
 use Rattle.cormcushion.specs.Answers.{of-listing, of-reading, of-round, of-shares}
 use Rattle.cormcushion.specs.Lent.{ListingPacked, ReadingPacked, RoundPacked, SharesPacked}
 use Rattle.cormcushion.specs.Meter.{shipper-day, charge-check, charge-cents, ChargePacked}
-use Rattle.cormcushion.specs.Metering.{of-metered, DayGasPacked}
+use Rattle.cormcushion.specs.DayGas.{of-metered, DayGasPacked}
 use Rattle.cormcushion.proofs.ChargeTests.{charge-numbered, charge-placed, charge-packs, charge-most}
 use Rattle.cormcushion.proofs.Unpacking.{most-figure, found-reads, answer-reads}
 
@@ -130,10 +130,10 @@ charge-reads rate p m yesterday delivered received schedules metered C =
     (λ accepted. omega (arith, charge-most rate D accepted)) (C .answers ∙ charge-packs rate D)
 
 -- ---- a day of readings: the sum of its energies
-pub readings-reads : {readings : List HourReading} {energies volumes energies-after volumes-after : List ℕ}
+pub gas-reads : {readings : List HourReading} {energies volumes energies-after volumes-after : List ℕ}
     {volume packed volume-after : ℕ} (G : DayGasPacked readings energies volumes volume packed energies-after volumes-after volume-after)
     → Unpacks packed (metered-verdict (G .day)) (λ gas. gas .energy .0)
-readings-reads {readings} G =
+gas-reads {readings} G =
     answer-reads (metered-decided readings (G .answers)) (λ gas. gas .energy .0) (readings-placed readings) (omega arith)
     (λ accepted. omega (arith, sums-kept (gas-kept readings accepted) .0))
     metered-answer of-metered refl (λ refusal. refl) (G .answers) (G .packs)

@@ -17,7 +17,7 @@ use Rattle.dayfile.proofs.Determined.{reading-determined}
 use Rattle.cormcushion.specs.Answers.{of-listing, of-reading, of-round, of-shares, with-day, with-levels}
 use Rattle.cormcushion.specs.Lent.{ListingPacked, ReadingPacked, RoundPacked, SharesPacked}
 use Rattle.cormcushion.specs.Meter.{ChargePacked}
-use Rattle.cormcushion.specs.Metering.{of-metered, DayGasPacked}
+use Rattle.cormcushion.specs.DayGas.{of-metered, DayGasPacked}
 
 -- what is computed from equal answers is equal
 same : {X Y : Type 0} {x y : X} {a b : Y} (f : X → Y) → a ≡ f x → b ≡ f y → x ≡ y → a ≡ b

@@ -2,4 +2,4 @@ pub mod Packed
 pub mod Answers
 pub mod Lent
 pub mod Meter
-pub mod Metering
+pub mod DayGas

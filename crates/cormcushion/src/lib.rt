@@ -2,9 +2,9 @@
 mod answers;
 mod capacity;
 mod day;
+mod daygas;
 mod hours;
 mod meter;
-mod metering;
 mod packed;
 mod texts;
 
@@ -12,8 +12,8 @@ pub use capacity::cormcushion_share_day;
 pub use capacity::cormcushion_share_round;
 pub use day::cormcushion_check_day;
 pub use day::cormcushion_read_day;
+pub use daygas::cormcushion_readings;
 pub use meter::cormcushion_overruns;
-pub use metering::cormcushion_readings;
 pub use texts::cormcushion_list_charges;
 pub use texts::cormcushion_list_points;
 pub use texts::cormcushion_list_shares;
