@@ -1,8 +1,8 @@
 -- The laws of sums over rows.
 use mathlib.Core.Path.{_≡_, ap, sym, _∙_}
 use mathlib.Core.Logic.{⊎-elim}
-use Prim.Native.Nat.{ℕ, zero, suc, _+_, _*_, _≤_, _<_}
-use native.Mathlib.Nat.{lt-suc-self, le-step, le-of-suc-le-suc, eq-or-lt-of-le, le-antisymm, le-of-eq}
+use Prim.Native.Nat.{ℕ, zero, suc, _+_, _-_, _*_, _≤_, _<_}
+use native.Mathlib.Nat.{add-zero, lt-suc-self, le-step, le-of-suc-le-suc, eq-or-lt-of-le, le-antisymm, le-of-eq}
 use native.Mathlib.Numerals.{add-one}
 use native.Mathlib.Omega.{arith}
 use Rattle.columns.specs.Sum.{sum}
@@ -46,6 +46,19 @@ row-le-sum (suc n) f i l =
 pub sum-cong : (n : ℕ) (f g : ℕ → ℕ) → ((i : ℕ) → i < n → f i ≡ g i) → sum n f ≡ sum n g
 sum-cong n f g h =
     le-antisymm (sum-mono n f g (λ i l. le-of-eq (h i l))) (sum-mono n g f (λ i l. le-of-eq (sym (h i l))))
+
+-- ---- the window of n rows from one row on, and the window after it
+module _ (f : ℕ → ℕ) (from : ℕ) where
+  with-both : (n : ℕ) → sum n (λ i. f (from + 1 + i)) + f from ≡ sum n (λ i. f (from + i)) + f (from + n)
+  unfolding sum
+  with-both zero = rw add-zero
+  with-both (suc n) =
+      let enters : from + 1 + n ≡ from + suc n = omega arith in
+      omega (arith, with-both n, ap f enters)
+
+  -- the sum of a window is that of the window before, plus what enters, less what leaves
+  pub sum-rolled : (n : ℕ) → sum n (λ i. f (from + 1 + i)) ≡ sum n (λ i. f (from + i)) + f (from + n) - f from
+  sum-rolled n = omega (arith, with-both n)
 
 -- bounded rows have a bounded sum
 pub sum-bound : (n : ℕ) (f : ℕ → ℕ) (k : ℕ) → ((i : ℕ) → i < n → f i ≤ k) → sum n f ≤ n * k
