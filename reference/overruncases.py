@@ -118,6 +118,9 @@ ROUTINES = (
         some_twelve_hourly,
         (
             (1_000, 1_000, hours_of(35, 48_000)),
+            (1_000, 2_000, hours_of(35, 100_000)),
+            # no two hours alike, so that no other may enter or leave
+            (0, 0, [*range(1, 36)]),
             # the period that ends with hour 5 begins yesterday
             (1_000, 2_000, hours_of(35, 0, 4, 799_000)),
             (1_000, 2_000, hours_of(35, 0, 4, 799_001)),

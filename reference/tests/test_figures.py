@@ -123,6 +123,10 @@ class Overruns(unittest.TestCase):
         ]
         self.assertEqual([*range(1, 12), *[12] * 13, *range(11, 0, -1)], counts)
 
+    def test_periods_over_their_limits(self):
+        self.assertEqual(4_830_000, twelve_hourly_overrun(1_000, 2_000, [100_000] * 35))
+        self.assertEqual(5_184, twelve_hourly_overrun(0, 0, [*range(1, 36)]))
+
     def test_a_day_over_its_twelve_hours(self):
         overruns = day_overruns(
             1_000,

@@ -1,3 +1,4 @@
 pub mod Excesses
 pub mod Greatest
 pub mod Periods
+pub mod Worked

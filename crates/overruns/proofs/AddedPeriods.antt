@@ -1,32 +1,41 @@
--- The periods' excesses are added up, one period after another.
-use mathlib.Core.Path.{_≡_, ap, _∙_}
+-- The periods' excesses are added up, one period after another, and the gas of each is kept for the next.
+use mathlib.Core.Path.{_≡_, sym, _∙_}
 use Prim.Native.Nat.{ℕ, _+_, _-_, _^_, _≤_, _<_}
-use native.Mathlib.Nat.{le-antisymm}
+use native.Mathlib.Nat.{zero-add}
 use native.Mathlib.Omega.{arith}
-use Rattle.columns.proofs.Sums.{Adding, adding-next}
-use Rattle.excesses.specs.TwelveHourly.{period-gas, period-limit}
+use Rattle.columns.proofs.Sums.{Adding, adding-none, adding-next, adding-all}
+use Rattle.excesses.specs.TwelveHourly.{period-gas, period-limit, twelve-hourly}
 use Rattle.excesses.proofs.Excesses.{Low, adding-fits}
 use Rattle.excesses.proofs.Periods.{following, period-most}
-use Rattle.overruns.specs.Private.{excesses-before}
 
 module _ (p m : ℕ) (hours : ℕ → ℕ) where
-  -- the periods that end before hour h are added up
-  abbrev pub Added : ℕ → ℕ → Type 0
-  Added h total = Adding 24 (following p m hours) (h - 1) total
+  -- of the periods that end before hour h: the gas of the last, and the excesses of all
+  pub record Added (h sum total : ℕ) : Type 0 where
+    pub later : 2 ≤ h
+    pub last : sum ≡ period-gas hours (h - 1)
+    pub all : Adding 24 (following p m hours) (h - 1) total
 
-  pub given-before : {h total : ℕ} → h ≤ 25 → total ≡ excesses-before p m hours h → Added h total
-  given-before l e = record { inside = omega arith; adds = e }
+  module _ (h : ℕ) {gas limit over : ℕ} (g : gas ≡ period-gas hours h) (l : limit ≡ period-limit p m h) (o : over ≡ gas - limit) where
+    with-excess : {total : ℕ} → 1 ≤ h → h ≤ 24 → Adding 24 (following p m hours) (h - 1) total → Added (h + 1) gas (total + over)
+    with-excess from to A =
+        let this : h - 1 + 1 ≡ h = omega arith in
+        let next : h - 1 + 1 ≡ h + 1 - 1 = omega arith in
+        let adds : over ≡ following p m hours (h - 1) = rw this (o ∙ rw (g, l)) in
+        record {
+          later = omega arith;
+          last = rw (sym next, this) g;
+          all = rw next at (adding-next 24 (following p m hours) A (omega arith) adds);
+        }
 
-  pub added-before : (to : ℕ) {h total : ℕ} → Added h total → h ≤ to → to ≤ h → total ≡ excesses-before p m hours to
-  added-before to A l k = A .adds ∙ ap (λ h. excesses-before p m hours h) (le-antisymm l k)
+    pub one-more : {sum total : ℕ} → Added h sum total → h < 25 → Added (h + 1) gas (total + over)
+    one-more A to = with-excess (omega (arith, A .later)) (omega arith) (A .all)
 
-  pub one-more : (h : ℕ) {total gas limit over : ℕ} → 1 ≤ h → h ≤ 24 → Added h total → gas ≡ period-gas hours h
-      → limit ≡ period-limit p m h → over ≡ gas - limit → Added (h + 1) (total + over)
-  one-more h {over = over} from to A g l o =
-      let this : h - 1 + 1 ≡ h = omega arith in
-      let next : h - 1 + 1 ≡ h + 1 - 1 = omega arith in
-      let adds : over ≡ following p m hours (h - 1) = rw this (o ∙ rw (g, l)) in
-      rw next at (adding-next 24 (following p m hours) A (omega arith) adds)
+  pub first-added : {gas limit over : ℕ} → gas ≡ period-gas hours 1 → limit ≡ period-limit p m 1 → over ≡ gas - limit → Added 2 gas over
+  first-added g l o = rw zero-add at (with-excess 1 g l o (omega arith) (omega arith) (adding-none 24 (following p m hours)))
 
-  pub periods-fit : Low hours → {before total : ℕ} → Adding 24 (following p m hours) before total → total < 2 ^ 64
-  periods-fit low A = adding-fits A (omega arith) (λ before l. period-most p m hours low before)
+  module _ {h sum total : ℕ} (A : Added h sum total) where
+    pub periods-fit : Low hours → total < 2 ^ 64
+    periods-fit low = adding-fits (A .all) (omega arith) (λ before l. period-most p m hours low before)
+
+    pub added-all : 25 ≤ h → total ≡ twelve-hourly p m hours
+    added-all l = adding-all 24 (following p m hours) (A .all) (omega arith)

@@ -4,4 +4,3 @@ pub mod Daily
 pub mod TwelveHourly
 pub mod Day
 pub mod Promise
-pub mod Private

@@ -8,12 +8,12 @@ use units::Gigajoules;
 use units::MOST_HOUR;
 use units::Megajoules;
 ghost use mathlib.Core.Path.{_≡_};
-ghost use Prim.Native.Nat.{_≤_};
+ghost use Prim.Native.Nat.{_+_};
 ghost use lib.ListN.{length};
 ghost use Rattle.columns.specs.Column.{col};
+ghost use Rattle.columns.specs.Sum.{sum};
 ghost use Rattle.metered.specs.Private.{Within};
 ghost use Rattle.excesses.specs.TwelveHourly.{period-limit, twelve-hourly};
-ghost use Rattle.overruns.specs.Private.{excesses-before};
 ghost use Rattle.overruns.specs.TwelveHourly.{twelve-hourly-answer};
 
 // The limit of the period that ends with hour h of today, whose first 12 − h hours are yesterday's.
@@ -28,37 +28,35 @@ fn period_limit(p: Gigajoules, m: Gigajoules, h: u64) -> Megajoules
     Megajoules(yesterday.0 + today.0)
 }
 
-// The excesses of the periods that end before hour `to` of today, given those of the periods that end before hour `from`.
-fn add_periods(
-    before: Megajoules,
-    p: Gigajoules,
-    m: Gigajoules,
-    hours: &[u64],
-    from: usize,
-    to: usize,
-) -> Megajoules
-    requires { ⌜ (length (now hours) ≡ 35) × Within (now hours) ⌝ }
-    requires { ⌜ (1 ≤ from) × (from ≤ to) × (to ≤ 25) ⌝ }
-    requires { ⌜ before .0 ≡ excesses-before (p .0) (m .0) (col (now hours)) from ⌝ }
-    ensures { λ r. ⌜ r .0 ≡ excesses-before (p .0) (m .0) (col (now (hours .entry))) to ⌝ }
+// The gas of twelve hours from that of the twelve before: of thirteen hours, the last enters and the first leaves.
+fn next_sum(before: Megajoules, hours: &[u64]) -> Megajoules
+    requires { ⌜ (length (now hours) ≡ 13) × Within (now hours) ⌝ }
+    requires { ⌜ before .0 ≡ sum 12 (col (now hours)) ⌝ }
+    ensures { λ r. ⌜ r .0 ≡ sum 12 (λ hour. col (now (hours .entry)) (1 + hour)) ⌝ }
 {
-    let mut total = before.0;
-    for h in from..to {
-        let delivered = gas_of(&hours[h - 1..h + 11]);
-        let over = excess(delivered, period_limit(p, m, h as u64));
-        total += over.0;
-    }
-    Megajoules(total)
+    let entering = hours[12];
+    let leaving = hours[0];
+    let sum = before.0 + entering - leaving;
+    Megajoules(sum)
 }
 
-// The sum of the excesses of the 24 periods, each of which ends with an hour of today. Those that began yesterday are added apart:
-// from hour 12 on there is one limit, worked out once.
+// The sum of the excesses of the 24 periods, each of which ends with an hour h of today. The first period's hours are added up,
+// and each later sum comes from the one before, so that who steps through sees one hour enter and one leave.
 pub fn twelve_hourly(p: Gigajoules, m: Gigajoules, hours: &[u64]) -> Megajoules
     requires { ⌜ (length (now hours) ≡ 35) × Within (now hours) ⌝ }
     ensures { λ r. ⌜ r .0 ≡ twelve-hourly (p .0) (m .0) (col (now (hours .entry))) ⌝ }
 {
-    let began_yesterday = add_periods(Megajoules(0), p, m, hours, 1, 12);
-    add_periods(began_yesterday, p, m, hours, 12, 25)
+    let mut sum = gas_of(&hours[0..12]);
+    let limit = period_limit(p, m, 1);
+    let over = excess(sum, limit);
+    let mut total = over.0;
+    for h in 2..25usize {
+        sum = next_sum(sum, &hours[h - 2..h + 11]);
+        let limit = period_limit(p, m, h as u64);
+        let over = excess(sum, limit);
+        total += over.0;
+    }
+    Megajoules(total)
 }
 
 // The twelve-hourly overrun from P and M, yesterday's and today's Adjusted MDQ, and 35 delivered hours, yesterday's 11 first.
