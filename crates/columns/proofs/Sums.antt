@@ -47,18 +47,19 @@ pub sum-cong : (n : ℕ) (f g : ℕ → ℕ) → ((i : ℕ) → i < n → f i �
 sum-cong n f g h =
     le-antisymm (sum-mono n f g (λ i l. le-of-eq (h i l))) (sum-mono n g f (λ i l. le-of-eq (sym (h i l))))
 
--- ---- the window of n rows from one row on, and the window after it
+-- ---- the window of n rows from one on, and the window after it
 module _ (f : ℕ → ℕ) (from : ℕ) where
-  with-both : (n : ℕ) → sum n (λ i. f (from + 1 + i)) + f from ≡ sum n (λ i. f (from + i)) + f (from + n)
+  -- each with the row that only the other has; so no difference below is cut off at zero
+  both-windows : (n : ℕ) → sum n (λ i. f (from + 1 + i)) + f from ≡ sum n (λ i. f (from + i)) + f (from + n)
   unfolding sum
-  with-both zero = rw add-zero
-  with-both (suc n) =
-      let enters : from + 1 + n ≡ from + suc n = omega arith in
-      omega (arith, with-both n, ap f enters)
+  both-windows zero = rw add-zero
+  both-windows (suc n) =
+      let last : from + 1 + n ≡ from + suc n = omega arith in
+      omega (arith, both-windows n, ap f last)
 
   -- the sum of a window is that of the window before, plus what enters, less what leaves
   pub sum-rolled : (n : ℕ) → sum n (λ i. f (from + 1 + i)) ≡ sum n (λ i. f (from + i)) + f (from + n) - f from
-  sum-rolled n = omega (arith, with-both n)
+  sum-rolled n = omega (arith, both-windows n)
 
 -- bounded rows have a bounded sum
 pub sum-bound : (n : ℕ) (f : ℕ → ℕ) (k : ℕ) → ((i : ℕ) → i < n → f i ≤ k) → sum n f ≤ n * k

@@ -4,10 +4,10 @@ use Prim.Native.Nat.{_+_}
 use Rattle.columns.specs.Sum.{sum}
 use Rattle.excesses.specs.TwelveHourly.{period-limit, twelve-hourly}
 
-pub one-figure : twelve-hourly 1_000 2_000 (λ hour. 100_000) ≡ 4_830_000
+pub hours-alike : twelve-hourly 1_000 2_000 (λ hour. 100_000) ≡ 4_830_000
 unfolding sum period-limit
-one-figure = refl
+hours-alike = refl
 
-pub no-two-alike : twelve-hourly 0 0 (λ hour. hour + 1) ≡ 5_184
+pub hours-rising : twelve-hourly 0 0 (λ hour. hour + 1) ≡ 5_184
 unfolding sum period-limit
-no-two-alike = refl
+hours-rising = refl

@@ -27,8 +27,8 @@ module _ (p m : ℕ) (hours : ℕ → ℕ) where
           all = rw next at (adding-next 24 (following p m hours) A (omega arith) adds);
         }
 
-    pub one-more : {sum total : ℕ} → Added h sum total → h < 25 → Added (h + 1) gas (total + over)
-    one-more A to = with-excess (omega (arith, A .later)) (omega arith) (A .all)
+    pub next-added : {sum total : ℕ} → Added h sum total → h < 25 → Added (h + 1) gas (total + over)
+    next-added A to = with-excess (omega (arith, A .later)) (omega arith) (A .all)
 
   pub first-added : {gas limit over : ℕ} → gas ≡ period-gas hours 1 → limit ≡ period-limit p m 1 → over ≡ gas - limit → Added 2 gas over
   first-added g l o = rw zero-add at (with-excess 1 g l o (omega arith) (omega arith) (adding-none 24 (following p m hours)))

@@ -26,25 +26,26 @@ module _ (n : ℕ) (hours : List ℕ) (low : Within hours) where
 pub ruleset parts-within = (taken-within, dropped-within)
 
 -- n hours from one on
-module _ (hours : List ℕ) (from n : ℕ) (inside : from + n ≤ length hours) where
+module _ (hours : List ℕ) (from n : ℕ) where
   abbrev part : List ℕ
   part = take n (drop from hours)
-
-  pub part-length : length part ≡ n
-  part-length = simp (length-take, length-drop) (omega arith)
 
   part-col : (k : ℕ) → k < n → col part k ≡ col hours (from + k)
   part-col k l = rw (getD-take, getD-drop)
 
   -- the period that begins with an hour of the part
   pub part-period : (hour h : ℕ) → hour + 12 ≤ n → from + hour ≡ h - 1 → sum 12 (λ k. col part (hour + k)) ≡ period-gas (col hours) h
-  part-period hour h low e =
+  part-period hour h enough e =
       sum-cong 12 _ _ (λ k l. part-col (hour + k) (omega arith) ∙ ap (col hours) (omega (arith, e)))
 
   -- the one that begins with its first hour
   pub part-first : (h : ℕ) → 12 ≤ n → from ≡ h - 1 → sum 12 (col part) ≡ period-gas (col hours) h
-  part-first h low e = simp zero-add at (part-period 0 h (omega arith) (omega (arith, e)))
+  part-first h enough e = simp zero-add at (part-period 0 h (omega arith) (omega (arith, e)))
 
-  -- a part of twelve hours is a period
-  pub part-gas : {gas : ℕ} (h : ℕ) → n ≡ 12 → from ≡ h - 1 → gas ≡ sum (length part) (col part) → gas ≡ period-gas (col hours) h
-  part-gas h twelve e g = g ∙ ap (λ n. sum n (col part)) (part-length ∙ twelve) ∙ part-first h (omega (arith, twelve)) e
+  module _ (inside : from + n ≤ length hours) where
+    pub part-length : length part ≡ n
+    part-length = simp (length-take, length-drop) (omega arith)
+
+    -- twelve hours, all of them added up
+    pub part-gas : {gas : ℕ} (h : ℕ) → n ≡ 12 → from ≡ h - 1 → gas ≡ sum (length part) (col part) → gas ≡ period-gas (col hours) h
+    part-gas h twelve e g = g ∙ ap (λ long. sum long (col part)) (part-length ∙ twelve) ∙ part-first h (omega (arith, twelve)) e

@@ -40,8 +40,8 @@ fn next_sum(before: Megajoules, hours: &[u64]) -> Megajoules
     Megajoules(sum)
 }
 
-// The sum of the excesses of the 24 periods, each of which ends with an hour h of today. The first period's hours are added up,
-// and each later sum comes from the one before, so that who steps through sees one hour enter and one leave.
+// The sum of the excesses of the 24 periods, each of which ends with an hour h of today. Only the first period's hours are added
+// up: each later sum comes from the one before, so that whoever steps through sees one hour enter and one leave (C-13).
 pub fn twelve_hourly(p: Gigajoules, m: Gigajoules, hours: &[u64]) -> Megajoules
     requires { ⌜ (length (now hours) ≡ 35) × Within (now hours) ⌝ }
     ensures { λ r. ⌜ r .0 ≡ twelve-hourly (p .0) (m .0) (col (now (hours .entry))) ⌝ }

@@ -5,7 +5,7 @@ use native.Mathlib.Omega.{arith}
 use borrow.Author.Needs.{needs}
 use lib.ListN.{length, length-take}
 use Rattle.columns.specs.Column.{col}
-use Rattle.overruns.proofs.AddedPeriods.{Added, first-added, one-more, added-all, periods-fit}
+use Rattle.overruns.proofs.AddedPeriods.{Added, first-added, next-added, added-all, periods-fit}
 use Rattle.overruns.proofs.Parts.{part-length, part-first, part-gas, part-period, parts-within}
 use Rattle.overruns.proofs.twelve_hourly.twelve_hourly.Statement.{statement}
 use Rattle.overruns.proofs.twelve_hourly.twelve_hourly.Tie as tie
@@ -15,14 +15,6 @@ Inv-loop p m hours sum₀ total₀ h₀ sum total h = Added (p .0) (m .0) (col h
 
 abbrev μ-loop : tie.MeasureT-loop
 μ-loop p m hours sum₀ total₀ h₀ sum total h = 25 - h
-
--- the thirteen hours up to hour h of today are among the 35
-inside : (c : tie.In-loop Inv-loop μ-loop)
-    → let h = c .before .loop .h in
-    h - 2 + (h + 11 - (h - 2)) ≤ length (c .before .before .before .before .before .before .before .args .hours .now)
-inside c =
-    let start = c .before .before .before .before .before .before .before in
-    omega (arith, start .pre .0, c .before .loop .inv .later, c .loop-test .taken)
 
 -- a turn has the period's gas, and adds its excess
 turn : (c : tie.After-excess2 Inv-loop μ-loop)
@@ -35,9 +27,10 @@ turn c =
     let test = summed .before .before in
     let turns = test .before in
     let args = turns .before .before .before .before .before .before .args in
+    let h = turns .loop .h in
     let later = turns .loop .inv .later in
-    one-more (args .p .0) (args .m .0) (col (args .hours .now)) (turns .loop .h)
-    (summed .next-sum .ensures ∙ part-period (args .hours .now) _ _ (inside test) 1 _ (omega arith) (omega arith))
+    next-added (args .p .0) (args .m .0) (col (args .hours .now)) h
+    (summed .next-sum .ensures ∙ part-period (args .hours .now) (h - 2) (h + 11 - (h - 2)) 1 h (omega arith) (omega arith))
     (c .before .period-limit2 .ensures) (c .excess2 .ensures) (turns .loop .inv) (test .loop-test .taken)
 
 sub-gas-of : tie.Need-sub-gas-of Inv-loop μ-loop
@@ -91,11 +84,13 @@ next-sum-requires c κs =
     let turns = c .before .before in
     let start = turns .before .before .before .before .before .before in
     let hours = start .args .hours .now in
-    let later = turns .loop .inv .later in
     let low = start .pre .1 in
-    let thirteen = inside (c .before) in (
-      (part-length hours _ _ thirteen ∙ omega arith, search (parts-within, low)),
-      turns .loop .inv .last ∙ sym (part-first hours _ _ thirteen _ (omega arith) (omega arith)),
+    let h = turns .loop .h in
+    let later = turns .loop .inv .later in
+    let thirteen = h + 11 - (h - 2) in
+    let inside : h - 2 + thirteen ≤ length hours = omega (arith, start .pre .0, c .before .loop-test .taken) in (
+      (part-length hours (h - 2) thirteen inside ∙ omega arith, search (parts-within, low)),
+      turns .loop .inv .last ∙ sym (part-first hours (h - 2) thirteen (h - 1) (omega arith) (omega arith)),
     )
 
 period-limit-requires-2 : tie.Need-period-limit-requires-2 Inv-loop μ-loop
