@@ -8,11 +8,18 @@ use native.Mathlib.Omega.{arith}
 use lib.ListN.{length, take, drop, length-append, List·getD-append}
 use lib.Seq.{take-add, getD-append-add}
 use Rattle.columns.specs.Column.{col, listed, joined}
+use Rattle.columns.specs.Sum.{sum}
 
 pub joined-same : (n : ℕ) (f g : ℕ → List ℕ) → ((i : ℕ) → i < n → f i ≡ g i) → joined n f ≡ joined n g
 unfolding joined
 joined-same zero f g same = refl
 joined-same (suc n) f g same = rw (joined-same n f g (λ i l. same i (le-step l)), same n (lt-suc-self n))
+
+-- lists are together as long as each
+pub length-joined-sum : (n : ℕ) (f : ℕ → List ℕ) → length (joined n f) ≡ sum n (λ i. length (f i))
+unfolding joined sum
+length-joined-sum zero f = refl
+length-joined-sum (suc n) f = omega (arith, length-append (joined n f) (f n), length-joined-sum n f)
 
 module _ (f : ℕ → List ℕ) (long : ℕ) (each : (i : ℕ) → length (f i) ≡ long) where
   pub length-joined : (n : ℕ) → length (joined n f) ≡ n * long

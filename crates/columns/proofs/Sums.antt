@@ -47,6 +47,21 @@ pub sum-cong : (n : ℕ) (f g : ℕ → ℕ) → ((i : ℕ) → i < n → f i �
 sum-cong n f g h =
     le-antisymm (sum-mono n f g (λ i l. le-of-eq (h i l))) (sum-mono n g f (λ i l. le-of-eq (sym (h i l))))
 
+-- ---- the rows from n on: their sum is not negative, and where they are zero they add nothing
+pub sum-within : (n m : ℕ) (f : ℕ → ℕ) → n ≤ m → sum n f ≤ sum m f
+unfolding sum
+sum-within n zero f l = rw (le-antisymm l (omega arith)) (omega arith)
+sum-within n (suc m) f l =
+    ⊎-elim (λ e. rw e (omega arith)) (λ k. omega (arith, sum-within n m f (le-of-suc-le-suc k))) (eq-or-lt-of-le l)
+
+pub sum-rest : (n m : ℕ) (f : ℕ → ℕ) → n ≤ m → ((i : ℕ) → n ≤ i → i < m → f i ≡ 0) → sum m f ≡ sum n f
+unfolding sum
+sum-rest n zero f l none = rw (le-antisymm l (omega arith))
+sum-rest n (suc m) f l none =
+    ⊎-elim (λ e. rw e)
+    (λ k. omega (arith, none m (le-of-suc-le-suc k) (lt-suc-self m), sum-rest n m f (le-of-suc-le-suc k) (λ i a b. none i a (le-step b))))
+    (eq-or-lt-of-le l)
+
 -- ---- the window of n rows from one on, and the window after it
 module _ (f : ℕ → ℕ) (from : ℕ) where
   -- each with the row that only the other has; so no difference below is cut off at zero
