@@ -16,7 +16,7 @@ use Rattle.units.proofs.Checks.{accepts-both, accepts-kept, accepts-clear, acce
 use Rattle.metered.specs.Singles.{mdqs-check, side-check, sides-check}
 use Rattle.metered.specs.Hours.{bare-hours, hours-check}
 use Rattle.dayformat.specs.declared.day.Day.{Day}
-use Rattle.dayformat.specs.declared.form.Column.{Column}
+use Rattle.dayformat.specs.declared.body.Column.{Column}
 use Rattle.dayformat.specs.declared.form.Tag.the-variants.{Meter}
 use Rattle.dayformat.specs.Format.{_of_, name, gigajoules, hour, backhaul, body, column-in, form}
 use Rattle.dayformat.specs.Layout.{count, row-start}
@@ -48,7 +48,7 @@ module _ (day : Day) (numbers : List ℕ) (S : Sound day numbers) (row : ℕ) (l
   row-bounded =
       let at = row-start (day .counts) Meter row in
       let kept = both (ltb row (form Meter .most)) (cond (bounded (col numbers) Meter at) true false)
-      (S .passes Meter tt Test.Bounds row l) in
+      (S .passes Meter refl Test.Bounds row l) in
       both (bounded (col numbers) Meter at) true (kept .1) .0
 
   pub meter-accepts : meter-check (day .counts) numbers row ≡ Check.Accepted
@@ -62,7 +62,7 @@ module _ (day : Day) (numbers : List ℕ) (S : Sound day numbers) (row : ℕ) (l
 
   -- ---- every number is within the bound of its kind
   most : (place : ℕ) → place < 68 → {kind : Column} → column-in (body Meter) place ≡ kind → figure place ≤ kind .high
-  most place few e = rw e at (sound-number day numbers S Meter tt row l place few)
+  most place few e = rw e at (sound-number day numbers S Meter refl row l place few)
 
   -- P and M; a side's schedules; the backhaul metered; the hours of both days
   of-mdqs : (place : ℕ) → 1 ≤ place → place < 3 → figure place ≤ most-gigajoules

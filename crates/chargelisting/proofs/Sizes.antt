@@ -71,7 +71,7 @@ module _ (rate : Rate) (kept-rate : rate .0 ≤ most-rate) where
   module _ (day : Day) (numbers : List ℕ) (S : Sound day numbers) where
     shipper-small : (row : ℕ) → row < count (day .counts) Meter → meter-figures (day .counts) numbers row .shipper ≤ 65_535
     unfolding column-in
-    shipper-small row l = rw (figures-had day numbers S row l) (sound-number day numbers S Meter tt row l 0 (omega arith))
+    shipper-small row l = rw (figures-had day numbers S row l) (sound-number day numbers S Meter refl row l 0 (omega arith))
 
     abbrev row-line : ℕ → List ℕ
     row-line row = line (decimals (charge-figures rate (day .counts) numbers row))

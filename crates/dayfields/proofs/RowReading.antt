@@ -13,7 +13,7 @@ use Rattle.columns.proofs.Laying.{Laying, laying-none}
 use Rattle.bigendian.specs.Number.{value, widest}
 use Rattle.bigendian.specs.Row.{decode}
 use Rattle.dayformat.specs.declared.form.Tag.{Tag}
-use Rattle.dayformat.specs.declared.form.Column.{Column}
+use Rattle.dayformat.specs.declared.body.Column.{Column}
 use Rattle.dayformat.specs.Format.{body, column-in, widths, form}
 use Rattle.dayformat.proofs.Small.{narrow}
 

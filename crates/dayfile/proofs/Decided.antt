@@ -8,6 +8,7 @@ use lib.ListN.{length}
 use Rattle.units.specs.Verdict.{Decided}
 use Rattle.units.proofs.Places.{PlacedTo, _then-if_, plainly}
 use Rattle.units.proofs.Verdicts.{AllNumbered, _and_, kept-by, decided}
+use Rattle.dayformat.specs.Layout.{no-rows}
 use Rattle.dayruns.specs.Walk.{file-check}
 use Rattle.dayruns.proofs.Decided.{refuses-walk, walk-numbered}
 use Rattle.dayfile.specs.declared.reader.Reading.{Reading}
@@ -35,7 +36,7 @@ pub reading-decided : {file lent after : List ℕ} {reading : Reading} → Readi
     → Decided (reading-check file (length lent)) (day-of file)
     (record {
       head = record { day = 0; «free_flow» = record { 0 = 0 }; compressor = record { 0 = 0 } };
-      counts = record { shippers = 0; points = 0; entries = 0; meters = 0 };
+      counts = no-rows;
     })
     (reading-verdict reading)
 reading-decided {file} {lent} A = decided reading-answer reading-verdict refl (λ refusal. refl) (reading-numbered file (length lent))

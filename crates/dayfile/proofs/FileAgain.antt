@@ -1,25 +1,27 @@
 -- A file without a fault: its bytes are those of the day that is read, and the day is sound.
 use mathlib.Core.Path.{_≡_, refl, ap, sym, _∙_}
 use mathlib.Core.Bool.{true}
-use mathlib.Core.List.{List, [], _++_}
-use Prim.Native.Nat.{ℕ, _+_, _≤_, _<_}
+use mathlib.Core.List.{List, append-nil}
+use Prim.Native.Nat.{ℕ, zero, suc, _+_, _≤_, _<_}
 use native.Mathlib.Omega.{arith}
 use borrow.Author.Tests.{eq-eqb}
 use lib.ListN.{take, drop}
 use lib.Seq.{take-all, drop-drop}
 use Rattle.columns.specs.Column.{col, listed, joined}
+use Rattle.columns.specs.Sum.{sum}
 use Rattle.bigendian.specs.Number.{AreBytes}
 use Rattle.bigendian.specs.Row.{size, decode}
 use Rattle.dayformat.specs.declared.form.Tag.{Tag}
-use Rattle.dayformat.specs.declared.form.Tag.the-variants.{Head, Shipper, Point, Entry, Meter}
-use Rattle.dayformat.specs.Format.{body, column-in, widths, field-size, field}
+use Rattle.dayformat.specs.declared.form.Tag.the-variants.{Head}
+use Rattle.dayformat.specs.Format.{body, many-tables, tag-at, table-place, column-in, widths, field-size, field}
 use Rattle.dayformat.specs.Layout.{no-rows, row-start, numbers-in}
-use Rattle.dayformat.specs.Private.{HasTable, Few}
-use Rattle.dayformat.specs.DayBytes.{head-row, fields, file-of}
+use Rattle.dayformat.specs.Private.{HasTable, Few, Agree}
+use Rattle.dayformat.specs.DayBytes.{head-row, file-of}
+use Rattle.dayformat.proofs.Every.{inside}
+use Rattle.dayformat.proofs.Layouts.{few-none, none-none, no-numbers}
 use Rattle.dayrows.specs.declared.Source.the-variants.{File}
-use Rattle.dayrows.specs.declared.Test.{Test}
 use Rattle.dayrows.specs.declared.Test.the-variants as Test
-use Rattle.dayrows.specs.Test.{passes, in-bounds}
+use Rattle.dayrows.specs.Test.{in-bounds}
 use Rattle.dayrows.specs.Private.{Sound}
 use Rattle.dayrows.specs.Whole.{broken}
 use Rattle.dayrows.proofs.Faults.{fault-none}
@@ -28,10 +30,8 @@ use Rattle.dayrows.proofs.Breaking.{Whole, broken-none}
 use Rattle.dayruns.specs.Run.{place-of, rows-of}
 use Rattle.dayruns.proofs.Running.{field-none}
 use Rattle.dayruns.proofs.Ending.{ended-none}
-use Rattle.dayfile.specs.File.{Tables, head-fields, head-fault, head-of, headed, tabled, tables, walked}
+use Rattle.dayfile.specs.File.{head-fields, head-fault, head-of, headed, tables-to, tables, walked}
 use Rattle.dayfile.specs.Answer.{day-of}
-use Rattle.dayfile.proofs.Rooms.{few-none}
-use Rattle.dayfile.proofs.Agreeing.{Agree, agree-same}
 use Rattle.dayfile.proofs.FieldsThere.{field-there}
 use Rattle.dayfile.proofs.Leading.{Leads}
 use Rattle.dayfile.proofs.Rereading.{tabled-none, All-pass, Reread, reread-more}
@@ -54,22 +54,24 @@ module _ (file : List ℕ) (none : head-fault file ≡ 0) where
   unfolding headed
   head-place = rw (eq-eqb (head-fault file) 0 none)
 
-  reread-head : Reread file Head (record { walk = headed file; numbers = [] }) (λ counts f. field Head (head-row (head-of file)))
-      (λ counts f. Unit {0})
-  unfolding headed
+  reread-head : Reread file 0 (tables-to file 0)
+  unfolding tables-to headed joined
   reread-head =
       record {
         few = few-none;
-        long = omega arith;
-        none = (refl, refl, refl, refl);
+        long = sym no-numbers;
+        none = none-none 0;
         bytes = λ are counts numbers a l.
-            ap (λ many. take many file) head-place ∙ field-there file are Head 0 head-whole ∙ ap (field Head) (head-numbers file);
-        pass = λ counts numbers a l. tt;
+            ap (λ many. take many file) head-place
+            ∙ field-there file are Head 0 head-whole
+            ∙ ap (field Head) (head-numbers file)
+            ∙ sym (append-nil (field Head (head-row (head-of file))));
+        pass = λ counts numbers a l place k. absurd (omega (arith, k));
       }
 
   -- its numbers are within their bounds
   head-bounded : (place : ℕ) → place < 3 → in-bounds (column-in (body Head) place) (col (head-row (head-of file)) place) ≡ true
-  unfolding joined
+  unfolding joined sum
   head-bounded place l =
       let row = ap (λ at. decode (widths Head) (drop (at + 3) file)) first ∙ head-numbers file in
       let at : row-start no-rows Head 0 + place ≡ place = omega arith in
@@ -80,44 +82,29 @@ module _ (file : List ℕ) (none : head-fault file ≡ 0) where
       (field-none (head-fields file) (λ rows. col (rows-of (head-fields file) rows)) 0 none .1) Test.Bounds)
       .1 place l
 
+-- ---- the tables before a sound one are sound, and so is the head
+module _ (file : List ℕ) where
+  sound-before : (n : ℕ) → tables-to file (suc n) .walk .fault ≡ 0 → tables-to file n .walk .fault ≡ 0
+  unfolding tables-to
+  sound-before n sound = tabled-none file (tag-at n) (tables-to file n) sound .0
+
+  sound-head : (n : ℕ) → tables-to file n .walk .fault ≡ 0 → head-fault file ≡ 0
+  unfolding tables-to headed
+  sound-head zero sound = sound
+  sound-head (suc n) sound = sound-head n (sound-before n sound)
+
+  reread : (n : ℕ) → n ≤ many-tables → tables-to file n .walk .fault ≡ 0 → Reread file n (tables-to file n)
+  unfolding tables-to
+  reread zero l sound = reread-head file (sound-head 0 sound)
+  reread (suc n) l sound = reread-more file n l (tables-to file n) (reread n (omega (arith, l)) (sound-before n sound)) sound
+
 -- ---- the whole file
 module _ (file : List ℕ) (none : walked file .fault ≡ 0) where
-  abbrev T₁ : Tables
-  T₁ = tabled file Shipper (record { walk = headed file; numbers = [] })
+  sound : tables file .walk .fault ≡ 0
+  sound = ended-none file (tables file .walk) none .0
 
-  abbrev T₂ : Tables
-  T₂ = tabled file Point T₁
-
-  abbrev T₃ : Tables
-  T₃ = tabled file Entry T₂
-
-  sound₄ : tables file .walk .fault ≡ 0
-  sound₄ = ended-none file (tables file .walk) none .0
-
-  sound₃ : T₃ .walk .fault ≡ 0
-  sound₃ = tabled-none file Meter T₃ sound₄ .0
-
-  sound₂ : T₂ .walk .fault ≡ 0
-  sound₂ = tabled-none file Entry T₂ sound₃ .0
-
-  sound₁ : T₁ .walk .fault ≡ 0
-  sound₁ = tabled-none file Point T₁ sound₂ .0
-
-  sound₀ : head-fault file ≡ 0
-  unfolding headed
-  sound₀ = tabled-none file Shipper (record { walk = headed file; numbers = [] }) sound₁ .0
-
-  reread : Reread file Meter (tables file)
-      (λ counts f.
-      field Head (head-row (head-of file)) ++ fields counts f Shipper ++ fields counts f Point ++ fields counts f Entry
-      ++ fields counts f Meter)
-      (λ counts f. (((Unit {0} × All-pass counts f Shipper) × All-pass counts f Point) × All-pass counts f Entry) × All-pass counts f Meter)
-  reread =
-      reread-more file Meter tt T₃
-      (reread-more file Entry tt T₂
-      (reread-more file Point tt T₁ (reread-more file Shipper tt _ (reread-head file sound₀) sound₁) sound₂)
-      sound₃)
-      sound₄
+  whole-file : Reread file many-tables (tables file)
+  whole-file = reread file many-tables (omega arith) sound
 
   abbrev numbers : List ℕ
   numbers = tables file .numbers
@@ -125,11 +112,11 @@ module _ (file : List ℕ) (none : walked file .fault ≡ 0) where
   whole : Leads numbers numbers
   whole = (omega arith, λ place l. refl)
 
-  ends : walked file ≡ tables file .walk
-  ends = ended-none file (tables file .walk) none .2
+  ended-is : walked file ≡ tables file .walk
+  ended-is = ended-none file (tables file .walk) none .2
 
-  agrees : Agree Meter (tables file .walk .counts) (walked file .counts)
-  agrees = rw ends (agree-same Meter (tables file .walk .counts))
+  agrees : Agree many-tables (tables file .walk .counts) (walked file .counts)
+  agrees place l = rw ended-is
 
   -- the bytes are those that the writer would write
   pub file-again : AreBytes file → file-of (day-of file) (col numbers) ≡ file
@@ -137,33 +124,22 @@ module _ (file : List ℕ) (none : walked file .fault ≡ 0) where
   file-again are =
       sym
       (sym (take-all (tables file .walk .place) file (ended-none file (tables file .walk) none .1))
-      ∙ reread .bytes are (walked file .counts) numbers agrees whole)
+      ∙ whole-file .bytes are (walked file .counts) numbers agrees whole)
 
   all-pass : (tag : Tag) → HasTable tag → All-pass (walked file .counts) (col numbers) tag
-  all-pass =
-      by (reread .pass (walked file .counts) numbers agrees whole)
-    where
-      by : (((Unit {0} × All-pass (walked file .counts) (col numbers) Shipper) × All-pass (walked file .counts) (col numbers) Point)
-          × All-pass (walked file .counts) (col numbers) Entry)
-          × All-pass (walked file .counts) (col numbers) Meter
-          → (tag : Tag) → HasTable tag → All-pass (walked file .counts) (col numbers) tag
-      by p Head t = absurd t
-      by p Shipper t = p .0 .0 .0 .1
-      by p Point t = p .0 .0 .1
-      by p Entry t = p .0 .1
-      by p Meter t = p .1
+  all-pass tag t = rw (← t) (whole-file .pass (walked file .counts) numbers agrees whole (table-place tag) (inside tag))
 
   few-rows : Few (walked file .counts)
-  few-rows = rw ends (reread .few)
+  few-rows = rw ended-is (whole-file .few)
 
   -- and the day is sound, whatever the file is made of
   pub read-sound : Sound (day-of file) numbers
   unfolding column-in
   read-sound =
       record {
-        long = reread .long ∙ ap (λ walk. numbers-in (walk .counts)) (sym ends);
-        free-flow = within-bounds (column-in (body Head) 1) _ (head-bounded file sound₀ 1 (omega arith)) .1;
-        compressor = within-bounds (column-in (body Head) 2) _ (head-bounded file sound₀ 2 (omega arith)) .1;
+        long = whole-file .long ∙ ap (λ walk. numbers-in (walk .counts)) (sym ended-is);
+        free-flow = within-bounds (column-in (body Head) 1) _ (head-bounded file (sound-head file many-tables sound) 1 (omega arith)) .1;
+        compressor = within-bounds (column-in (body Head) 2) _ (head-bounded file (sound-head file many-tables sound) 2 (omega arith)) .1;
         few = few-rows;
         passes = all-pass;
       }
@@ -171,4 +147,4 @@ module _ (file : List ℕ) (none : walked file .fault ≡ 0) where
   -- its day number has 32 bits
   pub day-number : day-of file .head .day ≤ 4_294_967_295
   unfolding column-in
-  day-number = within-bounds (column-in (body Head) 0) _ (head-bounded file sound₀ 0 (omega arith)) .1
+  day-number = within-bounds (column-in (body Head) 0) _ (head-bounded file (sound-head file many-tables sound) 0 (omega arith)) .1

@@ -3,16 +3,14 @@ pub mod Decided
 pub mod Determined
 pub mod Parts
 pub mod Reaching
-pub mod Rooms
 pub mod Stages
 pub mod Steps
 pub mod Walking
-pub mod Agreeing
 pub mod FieldsThere
 pub mod Leading
 pub mod Rereading
 pub mod SoundRuns
 pub mod FileAgain
 pub mod Told
-pub mod Above
+pub mod Apart
 pub mod WrittenRuns

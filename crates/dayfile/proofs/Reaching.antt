@@ -1,25 +1,26 @@
 -- How far a walk can come in a file of any length: a run has no more fields than there may be, so it stays within a full day's file.
-use mathlib.Core.Path.{_≡_, refl}
+use mathlib.Core.Path.{_≡_, refl, ap}
 use mathlib.Core.Bool.{Bool, true, false, cond}
-use mathlib.Core.List.{List, [], _++_}
-use Prim.Native.Nat.{ℕ, _+_, _*_, _≤_}
+use mathlib.Core.List.{List, _++_}
+use Prim.Native.Nat.{ℕ, zero, suc, _+_, _*_, _≤_, _<_}
 use native.Mathlib.Nat.{mul-le-mul-right}
 use native.Mathlib.Omega.{arith}
 use lib.Dec.{eqb}
 use Rattle.columns.specs.Column.{col, listed}
+use Rattle.columns.specs.Sum.{sum}
 use Rattle.columns.proofs.Firsts.{first-le}
 use Rattle.bigendian.specs.Row.{size}
 use Rattle.dayformat.specs.declared.form.Tag.{Tag}
-use Rattle.dayformat.specs.declared.form.Tag.the-variants.{Head, Shipper, Point, Entry, Meter}
-use Rattle.dayformat.specs.Format.{column-in, field-size, form}
-use Rattle.dayformat.specs.Layout.{numbers-in, file-size, most-counts, most-numbers}
+use Rattle.dayformat.specs.declared.form.Tag.the-variants.{Head}
+use Rattle.dayformat.specs.Format.{many-tables, tag-at, column-in, field-size, form}
+use Rattle.dayformat.specs.Layout.{numbers-in, bytes-before, file-size, most-counts, most-numbers}
 use Rattle.dayformat.specs.Private.{Few}
+use Rattle.dayformat.proofs.Layouts.{most-count, few-none, few-with, few-fit}
 use Rattle.dayruns.specs.declared.walk.Walk.{Walk}
 use Rattle.dayruns.specs.Run.{rows-of, stops}
 use Rattle.dayruns.specs.Walk.{walk-after}
 use Rattle.dayruns.proofs.Decided.{Known, field-known, run-known, ended-has}
-use Rattle.dayfile.specs.File.{Tables, fields-from, head-fields, head-fault, headed, table-run, tabled, tables, walked}
-use Rattle.dayfile.proofs.Rooms.{few-none, few-with, few-fit}
+use Rattle.dayfile.specs.File.{Tables, fields-from, head-fields, head-fault, headed, table-run, tabled, tables-to, tables, walked}
 
 -- a walk that has come no further than a byte
 pub record Reached (most : ℕ) (walk : Walk) : Type 0 where
@@ -41,11 +42,14 @@ headed-reached file =
     by false = omega arith
 
 -- the run of a tag
-tabled-reached : (file : List ℕ) (tag : Tag) (T : Tables) {most : ℕ} → Reached most (T .walk)
-    → Reached (most + form tag .most * field-size tag) (tabled file tag T .walk)
+tabled-reached : (file : List ℕ) (n : ℕ) → n < many-tables → (T : Tables) {most : ℕ} → Reached most (T .walk)
+    → Reached (most + form (tag-at n) .most * field-size (tag-at n)) (tabled file (tag-at n) T .walk)
 unfolding tabled
-tabled-reached file tag T {most} R = by (eqb (T .walk .fault) 0)
+tabled-reached file n l T {most} R = by (eqb (T .walk .fault) 0)
   where
+    tag : Tag
+    tag = tag-at n
+
     read : ℕ → ℕ → ℕ
     read many = col (T .numbers ++ rows-of (fields-from file (T .walk) tag) many)
 
@@ -64,24 +68,34 @@ tabled-reached file tag T {most} R = by (eqb (T .walk .fault) 0)
         record {
           fault = run-known (fields-from file (T .walk) tag) read;
           place = omega (arith, R .place, mul-le-mul-right (field-size tag) few-rows);
-          few = few-with tag (T .walk .counts) (table-run file tag T .rows) (R .few) few-rows;
+          few = few-with n l (T .walk .counts) (table-run file tag T .rows) (R .few) few-rows;
         }
     by false = record { fault = R .fault; place = omega (arith, R .place); few = R .few }
+
+-- the runs of so many tags, in a full day's file
+reached-to : (file : List ℕ) (n : ℕ) → n ≤ many-tables → Reached (bytes-before most-counts n) (tables-to file n .walk)
+unfolding tables-to sum
+reached-to file zero l = let R = headed-reached file in record { fault = R .fault; place = omega (arith, R .place); few = R .few }
+reached-to file (suc n) l =
+    let R = tabled-reached file n l (tables-to file n) (reached-to file n (omega (arith, l))) in
+    record {
+      fault = R .fault;
+      place = omega (arith, R .place, ap (λ rows. rows * field-size (tag-at n)) (most-count n l));
+      few = R .few;
+    }
 
 -- a head, 64 shippers, 32 points, 512 entries and 64 meters: the file of a full day
 abbrev pub most-file : ℕ
 most-file = 25_551
 
 pub full-day : file-size most-counts ≡ most-file
-unfolding size listed column-in
+unfolding size listed column-in sum
 full-day = refl
 
 tables-reached : (file : List ℕ) → Reached most-file (tables file .walk)
-unfolding size listed column-in
 tables-reached file =
-    tabled-reached file Meter _
-    (tabled-reached file Entry _
-    (tabled-reached file Point _ (tabled-reached file Shipper (record { walk = headed file; numbers = [] }) (headed-reached file))))
+    let R = reached-to file many-tables (omega arith) in
+    record { fault = R .fault; place = omega (arith, R .place, full-day); few = R .few }
 
 -- what follows the last field is told where it begins
 pub walked-reached : (file : List ℕ) → Reached most-file (walked file)
@@ -89,5 +103,9 @@ walked-reached file =
     let R = tables-reached file in
     ended-has (Reached most-file) file (tables file .walk) R (λ number known. record { fault = known; place = R .place; few = R .few })
 
-pub numbers-most : (file : List ℕ) → numbers-in (walked file .counts) ≤ most-numbers
-numbers-most file = few-fit (walked file .counts) (walked-reached file .few)
+pub full-numbers : most-numbers ≡ 6_880
+unfolding sum
+full-numbers = refl
+
+pub numbers-most : (file : List ℕ) → numbers-in (walked file .counts) ≤ 6_880
+numbers-most file = omega (arith, full-numbers, few-fit (walked file .counts) (walked-reached file .few))

@@ -11,12 +11,13 @@ use Rattle.columns.proofs.Firsts.{first-before}
 use Rattle.columns.proofs.Joined.{joined-same, joined-parts, length-joined}
 use Rattle.bigendian.specs.Number.{AreBytes}
 use Rattle.dayformat.specs.declared.layout.Counts.{Counts}
-use Rattle.dayformat.specs.Format.{field-size, form, field}
+use Rattle.dayformat.specs.Format.{table-place, field-size, form, field}
 use Rattle.dayformat.specs.Layout.{table-start, row-start}
+use Rattle.dayformat.specs.Private.{Agree}
 use Rattle.dayrows.specs.declared.Test.{Test}
 use Rattle.dayrows.specs.Test.{passes}
 use Rattle.dayrows.proofs.Faults.{fault-none}
-use Rattle.dayrows.proofs.Same.{Earlier, passes-same}
+use Rattle.dayrows.proofs.Same.{passes-same}
 use Rattle.dayrows.proofs.Breaking.{Whole, broken-none}
 use Rattle.dayruns.specs.Run.{Fields, place-of, row-of, rows-of, field-fault, stops, run-rows}
 use Rattle.dayruns.proofs.Running.{field-none, goes-sound, length-row}
@@ -45,7 +46,7 @@ module _ (F : Fields) (read : ℕ → ℕ → ℕ) where
 
 -- ---- the tests of a row, among the numbers read so far and among all
 module _ (F : Fields) (known : List ℕ) (start : length known ≡ table-start (F .counts) (F .tag)) (numbers : List ℕ) (counts : Counts)
-    (earlier : Earlier (F .tag) (F .counts) counts) where
+    (earlier : Agree (table-place (F .tag)) (F .counts) counts) where
   abbrev read : ℕ → ℕ → ℕ
   read many = col (known ++ rows-of F many)
 
@@ -70,7 +71,7 @@ module _ (F : Fields) (known : List ℕ) (start : length known ≡ table-start (
     passes-all test = passes-same test (F .source) (F .tag) (F .counts) counts (read (suc row)) (col numbers) row earlier alike
 
 pub run-passes : (F : Fields) (known : List ℕ) → length known ≡ table-start (F .counts) (F .tag) → (numbers : List ℕ) (counts : Counts)
-    → Earlier (F .tag) (F .counts) counts → Leads (known ++ rows-of F (run-rows F (λ many. col (known ++ rows-of F many)))) numbers
+    → Agree (table-place (F .tag)) (F .counts) counts → Leads (known ++ rows-of F (run-rows F (λ many. col (known ++ rows-of F many)))) numbers
     → (test : Test) (row : ℕ) → row < run-rows F (λ many. col (known ++ rows-of F many))
     → passes test (F .source) counts (col numbers) (F .tag) row ≡ true
 run-passes F known start numbers counts earlier leads test row l =

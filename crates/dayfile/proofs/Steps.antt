@@ -6,6 +6,7 @@ use native.Mathlib.Omega.{arith}
 use borrow.Author.Tests.{eq-eqb, ne-eqb}
 use lib.ListN.{length, drop, replicate}
 use Rattle.columns.specs.Column.{col, listed, joined}
+use Rattle.columns.specs.Sum.{sum}
 use Rattle.bigendian.specs.Row.{size, decode}
 use Rattle.dayformat.specs.declared.form.Tag.{Tag}
 use Rattle.dayformat.specs.declared.form.Tag.the-variants as Tag
@@ -29,7 +30,7 @@ head-first : (file : List ℕ) → place-of (head-fields file) 0 ≡ 0
 head-first file = omega arith
 
 head-laid : (file : List ℕ) → col (with-row no-rows file Tag.Head 0 0 (replicate 3 0)) ≡ col (rows-of (head-fields file) 1)
-unfolding joined
+unfolding joined sum
 head-laid file =
     let row = ap (λ at. decode (widths Tag.Head) (drop (at + 3) file)) (head-first file) in
     front-more (decode (widths Tag.Head) (drop 3 file)) [] (replicate 3 0) (front-none 3)

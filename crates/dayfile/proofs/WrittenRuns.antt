@@ -16,7 +16,7 @@ use Rattle.dayformat.proofs.Sizes.{length-field}
 use Rattle.dayrows.specs.Test.{fault}
 use Rattle.dayrows.proofs.Breaking.{Whole, whole-none}
 use Rattle.dayruns.specs.Run.{Fields, place-of, row-of, rows-of, field-fault, begun, stops, run-rows, run-of}
-use Rattle.dayfile.proofs.Above.{Above, begun-above, whole-begun}
+use Rattle.dayfile.proofs.Apart.{Apart, begun-apart, whole-begun}
 use Rattle.dayfile.proofs.FieldsThere.{whole-there, row-there}
 
 -- a table's fields in a file: what stands ahead of them and after them
@@ -30,7 +30,7 @@ pub record Written (F : Fields) : Type 0 where
   pub each : (i : ℕ) → length (row i) ≡ form (F .tag) .columns
   pub fits : (i : ℕ) → i < many → Fit (widths (F .tag)) (row i)
   pub few : many ≤ form (F .tag) .most
-  pub above : Above (form (F .tag) .byte) rest
+  pub apart : Apart (form (F .tag) .byte) rest
 
 module _ (F : Fields) (W : Written F) where
   abbrev fields-of : ℕ → List ℕ
@@ -80,7 +80,7 @@ module _ (F : Fields) (W : Written F) where
       ap (begun (F .file) (F .tag)) (sym (reaches (W .many)))
       ∙ ap (λ file. begun file (F .tag) (length (W .ahead ++ joined (W .many) fields-of)))
       (W .is ∙ sym (append-assoc (W .ahead) (joined (W .many) fields-of) (W .rest)))
-      ∙ begun-above (W .ahead ++ joined (W .many) fields-of) (W .rest) (F .tag) (W .above)
+      ∙ begun-apart (W .ahead ++ joined (W .many) fields-of) (W .rest) (F .tag) (W .apart)
 
   module _ (read : ℕ → ℕ → ℕ)
       (sound : (i : ℕ) → i < W .many → fault (F .source) (F .counts) (read (suc i)) (F .tag) i ≡ 0) where

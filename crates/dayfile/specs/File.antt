@@ -1,13 +1,13 @@
 -- 01, "The day file": a head, then the fields of each tag in order, then nothing.
 use mathlib.Core.Bool.{cond}
 use mathlib.Core.List.{List, [], _++_}
-use Prim.Native.Nat.{ℕ}
+use Prim.Native.Nat.{ℕ, zero, suc}
 use lib.Dec.{eqb}
 use Rattle.columns.specs.Column.{col}
 use Rattle.dayformat.specs.declared.day.Head.{Head}
 use Rattle.dayformat.specs.declared.form.Tag.{Tag}
 use Rattle.dayformat.specs.declared.form.Tag.the-variants as Tag
-use Rattle.dayformat.specs.Format.{field-size, number-in}
+use Rattle.dayformat.specs.Format.{many-tables, tag-at, field-size, number-in}
 use Rattle.dayformat.specs.Layout.{no-rows}
 use Rattle.dayrows.specs.declared.Source.{Source}
 use Rattle.dayrows.specs.declared.Source.the-variants as Source
@@ -59,12 +59,13 @@ tabled file tag T =
     })
     T
 
--- ---- the whole file
+-- ---- the head and the first so many tables, then the whole file
+unfoldable pub tables-to : List ℕ → ℕ → Tables
+tables-to file zero = record { walk = headed file; numbers = [] }
+tables-to file (suc place) = tabled file (tag-at place) (tables-to file place)
+
 abbrev pub tables : List ℕ → Tables
-tables file =
-    tabled file Tag.Meter
-    (tabled file Tag.Entry
-    (tabled file Tag.Point (tabled file Tag.Shipper (record { walk = headed file; numbers = [] }))))
+tables file = tables-to file many-tables
 
 abbrev pub walked : List ℕ → Walk
 walked file = ended file (tables file .walk)

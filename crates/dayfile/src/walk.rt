@@ -1,8 +1,10 @@
 // A file walked through field by field.
 use dayfields::take_field;
-use dayformat::Counts;
 use dayformat::HEAD_FIELD;
+use dayformat::NO_ROWS;
+use dayformat::TABLES;
 use dayformat::Tag;
+use dayformat::tag_at;
 use dayrows::Source;
 use dayruns::Walk;
 use dayruns::run_fields;
@@ -16,25 +18,19 @@ ghost use Rattle.dayfile.specs.Private.{Tabled, Walked};
 fn begin(file: &[u8]) -> Walk
     ensures { λ r. ⌜ r ≡ headed (now (file .entry)) ⌝ }
 {
-    let counts = Counts {
-        shippers: 0,
-        points: 0,
-        entries: 0,
-        meters: 0,
-    };
     let mut row = [0usize; 3];
-    let fault = take_field(Source::File, counts, file, Tag::Head, 0, 0, &mut row);
+    let fault = take_field(Source::File, NO_ROWS, file, Tag::Head, 0, 0, &mut row);
     if fault != 0 {
         return Walk {
             fault,
             place: 0,
-            counts,
+            counts: NO_ROWS,
         };
     }
     Walk {
         fault,
         place: HEAD_FIELD,
-        counts,
+        counts: NO_ROWS,
     }
 }
 
@@ -59,10 +55,11 @@ pub fn walk_file(file: &[u8], numbers: &mut [usize]) -> Walk
     requires { ⌜ now numbers ≡ replicate most-numbers 0 ⌝ }
     ensures { λ r. ⌜ Walked (now (file .entry)) (now (numbers .exit)) r ⌝ }
 {
-    let head = begin(file);
-    let shippers = walk_table(head, file, Tag::Shipper, numbers);
-    let points = walk_table(shippers, file, Tag::Point, numbers);
-    let entries = walk_table(points, file, Tag::Entry, numbers);
-    let meters = walk_table(entries, file, Tag::Meter, numbers);
-    meters.end(file)
+    let mut walk = begin(file);
+    let mut place = 0;
+    while place < TABLES {
+        walk = walk_table(walk, file, tag_at(place), numbers);
+        place += 1;
+    }
+    walk.end(file)
 }

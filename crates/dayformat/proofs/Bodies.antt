@@ -1,10 +1,11 @@
 -- A number of a body is of the kind that its place falls into.
-use mathlib.Core.Path.{_≡_, refl}
+use mathlib.Core.Path.{_≡_}
 use mathlib.Core.List.{List, [], _∷_, _++_}
 use Prim.Native.Nat.{ℕ, _+_, _-_, _≤_, _<_}
 use native.Mathlib.Omega.{arith}
 use borrow.Author.Tests.{lt-ltb, le-ltb}
-use Rattle.dayformat.specs.Format.{Several, none, column-in, numbers-of}
+use Rattle.dayformat.specs.declared.body.Several.{Several}
+use Rattle.dayformat.specs.Format.{column-in, numbers-of}
 
 pub among : (ahead : List Several) (several : Several) (rest : List Several) (place : ℕ)
     → numbers-of ahead ≤ place → place < numbers-of ahead + several .many → column-in (ahead ++ (several ∷ rest)) place ≡ several .kind
@@ -12,9 +13,3 @@ unfolding column-in
 among [] several rest place h l = rw (lt-ltb place (several .many) (omega arith))
 among (first ∷ ahead) several rest place h l =
     rw (le-ltb place (first .many) (omega arith)) (among ahead several rest (place - first .many) (omega arith) (omega arith))
-
-pub beyond : (all : List Several) (place : ℕ) → numbers-of all ≤ place → column-in all place ≡ none
-unfolding column-in
-beyond [] place h = refl
-beyond (first ∷ rest) place h =
-    rw (le-ltb place (first .many) (omega arith)) (beyond rest (place - first .many) (omega arith))

@@ -1,13 +1,14 @@
 -- How many bytes a field, the fields of a tag, and a file have.
 use mathlib.Core.Path.{_≡_, refl}
-use mathlib.Core.List.{List}
+use mathlib.Core.List.{List, _++_}
 use Prim.Native.Nat.{ℕ, _*_, _^_, _<_}
 use native.Mathlib.Nat.{mul-le-mul-left}
 use native.Mathlib.Omega.{arith}
 use lib.ListN.{length, length-append}
-use Rattle.columns.specs.Column.{listed}
+use Rattle.columns.specs.Column.{listed, joined}
 use Rattle.columns.proofs.Lists.{length-listed}
-use Rattle.columns.proofs.Joined.{length-joined}
+use Rattle.columns.proofs.Joined.{length-joined, length-joined-sum}
+use Rattle.columns.proofs.Sums.{sum-cong}
 use Rattle.bigendian.specs.Row.{size}
 use Rattle.bigendian.proofs.Numbers.{length-bytes}
 use Rattle.bigendian.proofs.Rows.{length-encode}
@@ -15,8 +16,8 @@ use Rattle.dayformat.specs.declared.day.Day.{Day}
 use Rattle.dayformat.specs.declared.form.Tag.{Tag}
 use Rattle.dayformat.specs.declared.form.Tag.the-variants as Tag
 use Rattle.dayformat.specs.declared.layout.Counts.{Counts}
-use Rattle.dayformat.specs.Format.{column-in, widths, field-size, form, field}
-use Rattle.dayformat.specs.Layout.{count, row-start, run-size, file-size}
+use Rattle.dayformat.specs.Format.{many-tables, tag-at, column-in, widths, field-size, form, field}
+use Rattle.dayformat.specs.Layout.{count, row-start, run-size, bytes-before, file-size}
 use Rattle.dayformat.specs.DayBytes.{row-from, head-row, fields, file-of}
 use Rattle.dayformat.proofs.Small.{small}
 
@@ -31,22 +32,21 @@ module _ (numbers : ℕ → ℕ) (tag : Tag) where
   pub length-fields : (counts : Counts) → length (fields counts numbers tag) ≡ run-size counts tag
   length-fields counts = length-joined _ (field-size tag) (λ row. length-row-field (row-start counts tag row)) (count counts tag)
 
--- a named size of the counts is the file's length
+-- a named size of the counts is how many bytes stand before a table, and how many there are
+pub length-tables : (day : Day) (numbers : ℕ → ℕ) (many : ℕ)
+    → length (field Tag.Head (head-row (day .head)) ++ joined many (λ place. fields (day .counts) numbers (tag-at place)))
+    ≡ bytes-before (day .counts) many
+length-tables day numbers many =
+    rw (length-append, length-field Tag.Head (head-row (day .head)) refl)
+    (omega (
+      arith,
+      length-joined-sum many (λ place. fields (day .counts) numbers (tag-at place)),
+      sum-cong many _ _ (λ place l. length-fields numbers (tag-at place) (day .counts)),
+    ))
+
 pub length-file-of : (day : Day) (numbers : ℕ → ℕ) → length (file-of day numbers) ≡ file-size (day .counts)
 unfolding file-of
-length-file-of day numbers =
-    rw (
-      length-append,
-      length-fields numbers Tag.Meter (day .counts),
-      length-append,
-      length-fields numbers Tag.Entry (day .counts),
-      length-append,
-      length-fields numbers Tag.Point (day .counts),
-      length-append,
-      length-fields numbers Tag.Shipper (day .counts),
-      length-field Tag.Head (head-row (day .head)) refl,
-    )
-    (omega arith)
+length-file-of day numbers = length-tables day numbers many-tables
 
 -- the fields of tag 2 begin so many bytes in
 pub head-size : field-size Tag.Head ≡ 15

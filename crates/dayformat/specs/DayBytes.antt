@@ -7,7 +7,7 @@ use Rattle.dayformat.specs.declared.day.Head.{Head}
 use Rattle.dayformat.specs.declared.form.Tag.{Tag}
 use Rattle.dayformat.specs.declared.form.Tag.the-variants as Tag
 use Rattle.dayformat.specs.declared.layout.Counts.{Counts}
-use Rattle.dayformat.specs.Format.{form, field}
+use Rattle.dayformat.specs.Format.{many-tables, tag-at, form, field}
 use Rattle.dayformat.specs.Layout.{count, row-start}
 
 -- the numbers of a row that begins at a place
@@ -21,11 +21,7 @@ head-row head = head .day ∷ head .«free_flow» .0 ∷ head .compressor .0 ∷
 abbrev pub fields : Counts → (ℕ → ℕ) → Tag → List ℕ
 fields counts numbers tag = joined (count counts tag) (λ row. field tag (row-from numbers tag (row-start counts tag row)))
 
--- the head's field, then those of each tag in order
+-- the head's field, then those of each tag in file order
 unfoldable pub file-of : Day → (ℕ → ℕ) → List ℕ
 file-of day numbers =
-    field Tag.Head (head-row (day .head))
-    ++ fields (day .counts) numbers Tag.Shipper
-    ++ fields (day .counts) numbers Tag.Point
-    ++ fields (day .counts) numbers Tag.Entry
-    ++ fields (day .counts) numbers Tag.Meter
+    field Tag.Head (head-row (day .head)) ++ joined many-tables (λ place. fields (day .counts) numbers (tag-at place))

@@ -1,17 +1,20 @@
--- 01, "The day file": fields of a one-byte tag, a two-byte length, a body.
+-- 01, "The day file": fields of a one-byte tag, a two-byte length, a body. A line for each tag in each table of the format's data.
 use mathlib.Core.Bool.{cond}
 use mathlib.Core.List.{List, [], _∷_, _++_}
 use Prim.Native.Nat.{ℕ, _+_, _-_}
 use lib.Dec.{ltb}
-use lib.ListN.{take, drop}
+use lib.ListN.{length, getD, take, drop, replicate}
 use Rattle.columns.specs.Column.{listed}
 use Rattle.units.specs.Bound.{most-gigajoules, most-hour, most-backhaul}
 use Rattle.bigendian.specs.Number.{value, bytes}
 use Rattle.bigendian.specs.Row.{size, encode}
 use Rattle.dayformat.specs.declared.form.Tag.{Tag}
 use Rattle.dayformat.specs.declared.form.Tag.the-variants.{Head, Shipper, Point, Entry, Meter}
-use Rattle.dayformat.specs.declared.form.Column.{Column}
 use Rattle.dayformat.specs.declared.form.Form.{Form}
+use Rattle.dayformat.specs.declared.body.Column.{Column}
+use Rattle.dayformat.specs.declared.body.Several.{Several}
+use Rattle.dayformat.specs.declared.rules.Name.{Name}
+use Rattle.dayformat.specs.declared.rules.Pair.{Pair}
 
 -- ---- the kinds of number: how many bytes spell it, and its bounds
 abbrev pub none : Column
@@ -41,10 +44,6 @@ abbrev pub backhaul : Column
 backhaul = record { width = 4; low = 0; high = most-backhaul }
 
 -- ---- a body is so many numbers of one kind, then so many of the next
-pub record Several : Type 0 where
-  pub many : ℕ
-  pub kind : Column
-
 infix 70 _of_
 abbrev pub _of_ : ℕ → Column → Several
 many of kind = record { many = many; kind = kind }
@@ -61,20 +60,7 @@ body Entry = 1 of side ∷ 2 of name ∷ 1 of hour ∷ []
 -- shipper, P, M, 11 delivered hours of yesterday, 24 delivered, 24 received, four schedules, backhaul metered receipt and delivery
 body Meter = 1 of name ∷ 2 of gigajoules ∷ (11 + 24 + 24) of hour ∷ 4 of gigajoules ∷ 2 of backhaul ∷ []
 
--- the kind of a number, counted from 0
-unfoldable pub column-in : List Several → ℕ → Column
-column-in [] place = none
-column-in (several ∷ rest) place = cond (ltb place (several .many)) (several .kind) (column-in rest (place - several .many))
-
-abbrev pub numbers-of : List Several → ℕ
-numbers-of [] = 0
-numbers-of (several ∷ rest) = several .many + numbers-of rest
-
--- the widths of its numbers
-abbrev pub widths : Tag → List ℕ
-widths tag = listed (numbers-of (body tag)) (λ place. column-in (body tag) place .width)
-
--- the tag's byte, how many fields there may be, and how many of the first numbers are the key
+-- ---- the tag's byte, how many fields there may be, and how many of the first numbers are the key
 abbrev pub tag-byte : Tag → ℕ
 tag-byte Head = 1
 tag-byte Shipper = 2
@@ -95,6 +81,63 @@ key Shipper = 1
 key Point = 2
 key Entry = 3
 key Meter = 1
+
+-- ---- tags 4 and 5 name only shippers and points listed before: the place of a key in the row, and the tag of the rows that list it
+infix 70 _is-a_
+abbrev pub _is-a_ : ℕ → Tag → Name
+place is-a tag = record { place = place; tag = tag }
+
+abbrev pub names : Tag → List Name
+names Head = []
+names Shipper = []
+names Point = []
+names Entry = 0 is-a Point ∷ 2 is-a Shipper ∷ []
+names Meter = 0 is-a Shipper ∷ []
+
+-- ---- the firm and the auction MDQ: the place of an MDQ in the row, and that of its schedule
+infix 70 _for_
+abbrev pub _for_ : ℕ → ℕ → Pair
+mdq for schedule = record { mdq = mdq; schedule = schedule }
+
+abbrev pub mdqs : Tag → List Pair
+mdqs Head = []
+mdqs Shipper = 1 for 3 ∷ 2 for 4 ∷ []
+mdqs Point = []
+mdqs Entry = []
+mdqs Meter = []
+
+-- ---- the tables in file order; the head comes before them and has none
+abbrev pub file-order : List Tag
+file-order = Shipper ∷ Point ∷ Entry ∷ Meter ∷ []
+
+abbrev pub many-tables : ℕ
+many-tables = length file-order
+
+-- the tag of the table at a place, the head's past the last
+abbrev pub tag-at : ℕ → Tag
+tag-at place = getD file-order place Head
+
+-- the place of a tag's table
+abbrev pub table-place : Tag → ℕ
+table-place Head = 0
+table-place Shipper = 0
+table-place Point = 1
+table-place Entry = 2
+table-place Meter = 3
+
+-- ---- what follows from a body
+-- the kind of a number, counted from 0
+unfoldable pub column-in : List Several → ℕ → Column
+column-in [] place = none
+column-in (several ∷ rest) place = cond (ltb place (several .many)) (several .kind) (column-in rest (place - several .many))
+
+abbrev pub numbers-of : List Several → ℕ
+numbers-of [] = 0
+numbers-of (several ∷ rest) = several .many + numbers-of rest
+
+-- the widths of its numbers
+abbrev pub widths : Tag → List ℕ
+widths tag = listed (numbers-of (body tag)) (λ place. column-in (body tag) place .width)
 
 -- a field's header: the tag's byte and two bytes of length
 abbrev pub length-width : ℕ
@@ -127,3 +170,7 @@ form tag =
 -- a field of a row: the tag, the length, the body
 abbrev pub field : Tag → List ℕ → List ℕ
 field tag row = form tag .byte ∷ bytes length-width (form tag .size) ++ encode (widths tag) row
+
+-- ---- a tag's data as an array of one length, filled up with what says nothing
+abbrev pub filled : {X : Type 0} → ℕ → X → List X → List X
+filled many nothing list = take many (list ++ replicate many nothing)

@@ -1,6 +1,13 @@
-// What a field of each tag holds.
+// What is known of each tag's fields.
+use crate::body::BACKHAUL;
+use crate::body::GIGAJOULES;
+use crate::body::HOUR;
+use crate::body::METER_HOURS;
+use crate::body::NAME;
+use crate::body::NUMBER;
+use crate::body::SIDE;
 ghost use mathlib.Core.Path.{_≡_};
-ghost use Rattle.dayformat.specs.Format.{body, column-in, form};
+ghost use Rattle.dayformat.specs.Format.{form};
 
 // The tags, 1 to 5 in this order.
 pub enum Tag {
@@ -9,13 +16,6 @@ pub enum Tag {
     Point,
     Entry,
     Meter,
-}
-
-// A number of a field: how many bytes spell it, and its bounds.
-pub struct Column {
-    pub width: usize,
-    pub low: usize,
-    pub high: usize,
 }
 
 // A tag's byte; how many numbers its body holds, in how many bytes; how many fields there may be; how many first numbers are the key.
@@ -27,47 +27,8 @@ pub struct Form {
     pub key: usize,
 }
 
-const NONE: Column = Column {
-    width: 0,
-    low: 0,
-    high: 0,
-};
-
-pub const SIDE: Column = Column {
-    width: 1,
-    low: 0,
-    high: 1,
-};
-
-pub const NAME: Column = Column {
-    width: 2,
-    low: 1,
-    high: 65_535,
-};
-
-pub const NUMBER: Column = Column {
-    width: 4,
-    low: 0,
-    high: 4_294_967_295,
-};
-
-pub const GIGAJOULES: Column = Column {
-    width: 4,
-    low: 0,
-    high: 1_000_000,
-};
-
-pub const HOUR: Column = Column {
-    width: 4,
-    low: 0,
-    high: 100_000_000,
-};
-
-pub const BACKHAUL: Column = Column {
-    width: 4,
-    low: 0,
-    high: 2_400_000_000,
-};
+// The byte of the tag of which a file has the most fields.
+pub const ENTRY_BYTE: u8 = 4;
 
 // A field's header: the tag's byte and the bytes of its length.
 pub const LENGTH_WIDTH: usize = 2;
@@ -90,9 +51,6 @@ const POINT_BODY: usize = SIDE.width + NAME.width + HOUR.width;
 pub const ENTRY_COLUMNS: usize = 1 + 2 + 1;
 
 const ENTRY_BODY: usize = SIDE.width + 2 * NAME.width + HOUR.width;
-
-// A meter's hours: 11 delivered ones of yesterday, 24 delivered, 24 received.
-pub const METER_HOURS: usize = 11 + 24 + 24;
 
 pub const METER_COLUMNS: usize = 1 + 2 + METER_HOURS + 4 + 2;
 
@@ -148,7 +106,7 @@ pub fn form_of(tag: Tag) -> Form
             key: 2,
         },
         Tag::Entry => Form {
-            byte: 4,
+            byte: ENTRY_BYTE,
             columns: ENTRY_COLUMNS,
             size: ENTRY_BODY,
             most: MOST_ENTRIES,
@@ -162,92 +120,4 @@ pub fn form_of(tag: Tag) -> Form
             key: 1,
         },
     }
-}
-
-// The column of a body's number, counted from 0.
-pub fn column_at(tag: Tag, place: usize) -> Column
-    ensures { λ r. ⌜ r ≡ column-in (body tag) place ⌝ }
-{
-    match tag {
-        Tag::Head => head_column(place),
-        Tag::Shipper => shipper_column(place),
-        Tag::Point => point_column(place),
-        Tag::Entry => entry_column(place),
-        Tag::Meter => meter_column(place),
-    }
-}
-
-fn head_column(place: usize) -> Column
-    ensures { λ r. ⌜ r ≡ column-in (body Tag.Head) place ⌝ }
-{
-    if place < 1 {
-        return NUMBER;
-    }
-    if place < 3 {
-        return GIGAJOULES;
-    }
-    NONE
-}
-
-fn shipper_column(place: usize) -> Column
-    ensures { λ r. ⌜ r ≡ column-in (body Tag.Shipper) place ⌝ }
-{
-    if place < 1 {
-        return NAME;
-    }
-    if place < 6 {
-        return GIGAJOULES;
-    }
-    NONE
-}
-
-fn point_column(place: usize) -> Column
-    ensures { λ r. ⌜ r ≡ column-in (body Tag.Point) place ⌝ }
-{
-    if place < 1 {
-        return SIDE;
-    }
-    if place < 2 {
-        return NAME;
-    }
-    if place < 3 {
-        return HOUR;
-    }
-    NONE
-}
-
-fn entry_column(place: usize) -> Column
-    ensures { λ r. ⌜ r ≡ column-in (body Tag.Entry) place ⌝ }
-{
-    if place < 1 {
-        return SIDE;
-    }
-    if place < 3 {
-        return NAME;
-    }
-    if place < 4 {
-        return HOUR;
-    }
-    NONE
-}
-
-fn meter_column(place: usize) -> Column
-    ensures { λ r. ⌜ r ≡ column-in (body Tag.Meter) place ⌝ }
-{
-    if place < 1 {
-        return NAME;
-    }
-    if place < 3 {
-        return GIGAJOULES;
-    }
-    if place < 62 {
-        return HOUR;
-    }
-    if place < 66 {
-        return GIGAJOULES;
-    }
-    if place < 68 {
-        return BACKHAUL;
-    }
-    NONE
 }

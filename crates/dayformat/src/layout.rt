@@ -2,6 +2,7 @@
 use crate::form::ENTRY_COLUMNS;
 use crate::form::ENTRY_FIELD;
 use crate::form::HEAD_FIELD;
+use crate::form::HEADER;
 use crate::form::METER_COLUMNS;
 use crate::form::METER_FIELD;
 use crate::form::MOST_ENTRIES;
@@ -14,10 +15,15 @@ use crate::form::SHIPPER_COLUMNS;
 use crate::form::SHIPPER_FIELD;
 use crate::form::Tag;
 use crate::form::form_of;
+use crate::order::TABLES;
+use crate::order::table_place;
+use crate::order::tag_at;
 use units::Check;
 ghost use mathlib.Core.Path.{_≡_};
-ghost use Prim.Native.Nat.{_^_, _<_};
-ghost use Rattle.dayformat.specs.Layout.{count, with-count, table-start, row-start, numbers-in, file-size};
+ghost use Prim.Native.Nat.{_+_, _*_, _^_, _≤_, _<_};
+ghost use Rattle.columns.specs.Sum.{sum};
+ghost use Rattle.dayformat.specs.Format.{many-tables, tag-at, form};
+ghost use Rattle.dayformat.specs.Layout.{count, with-count, row-start, numbers-before, numbers-in, bytes-before, fields-start, file-size};
 ghost use Rattle.dayformat.specs.Acceptance.{counts-check};
 
 // How many numbers a day has at most.
@@ -40,6 +46,13 @@ pub struct Counts {
     pub entries: u32,
     pub meters: u32,
 }
+
+pub const NO_ROWS: Counts = Counts {
+    shippers: 0,
+    points: 0,
+    entries: 0,
+    meters: 0,
+};
 
 // A day has one head.
 pub fn count_of(counts: Counts, tag: Tag) -> u32
@@ -74,35 +87,37 @@ impl Counts {
     pub fn check(self) -> Check
         ensures { λ r. ⌜ r ≡ counts-check self ⌝ }
     {
-        Check::Accepted
-            .keep(self.shippers <= form_of(Tag::Shipper).most, 3)
-            .keep(self.points <= form_of(Tag::Point).most, 3)
-            .keep(self.entries <= form_of(Tag::Entry).most, 3)
-            .keep(self.meters <= form_of(Tag::Meter).most, 3)
+        let mut found = Check::Accepted;
+        let mut place = 0;
+        while place < TABLES {
+            let tag = tag_at(place);
+            found = found.keep(count_of(self, tag) <= form_of(tag).most, 3);
+            place += 1;
+        }
+        found
     }
 }
 
-// Where a table's first row stands among the day's numbers.
-fn table_start(counts: Counts, tag: Tag) -> usize
-    ensures { λ r. ⌜ (r ≡ table-start counts tag) × (r < 2 ^ 38) ⌝ }
+// How many numbers the first so many tables hold.
+fn numbers_before(counts: Counts, many: usize) -> usize
+    requires { ⌜ many ≤ many-tables ⌝ }
+    ensures { λ r. ⌜ (r ≡ numbers-before counts many) × (r ≤ sum many (λ place. form (tag-at place) .columns) * 2 ^ 32) ⌝ }
 {
-    match tag {
-        Tag::Head => 0,
-        Tag::Shipper => 0,
-        Tag::Point => counts.shippers as usize * SHIPPER_COLUMNS,
-        Tag::Entry => counts.shippers as usize * SHIPPER_COLUMNS
-            + counts.points as usize * POINT_COLUMNS,
-        Tag::Meter => counts.shippers as usize * SHIPPER_COLUMNS
-            + counts.points as usize * POINT_COLUMNS
-            + counts.entries as usize * ENTRY_COLUMNS,
+    let mut numbers = 0;
+    let mut place = 0;
+    while place < many {
+        let tag = tag_at(place);
+        numbers += count_of(counts, tag) as usize * form_of(tag).columns;
+        place += 1;
     }
+    numbers
 }
 
 // Where a row stands.
 pub fn row_place(counts: Counts, tag: Tag, row: u32) -> usize
     ensures { λ r. ⌜ (r ≡ row-start counts tag row) × (r < 2 ^ 40) ⌝ }
 {
-    let start = table_start(counts, tag);
+    let start = numbers_before(counts, table_place(tag));
     start + row as usize * form_of(tag).columns
 }
 
@@ -110,16 +125,34 @@ pub fn row_place(counts: Counts, tag: Tag, row: u32) -> usize
 pub fn numbers_of(counts: Counts) -> usize
     ensures { λ r. ⌜ (r ≡ numbers-in counts) × (r < 2 ^ 40) ⌝ }
 {
-    row_place(counts, Tag::Meter, counts.meters)
+    numbers_before(counts, TABLES)
+}
+
+// How many bytes its fields have up to those of the first so many tables.
+fn bytes_before(counts: Counts, many: usize) -> usize
+    requires { ⌜ many ≤ many-tables ⌝ }
+    ensures { λ r. ⌜ (r ≡ bytes-before counts many) × (r ≤ 15 + many * 2 ^ 41) ⌝ }
+{
+    let mut bytes = HEAD_FIELD;
+    let mut place = 0;
+    while place < many {
+        let tag = tag_at(place);
+        bytes += count_of(counts, tag) as usize * (HEADER + form_of(tag).size);
+        place += 1;
+    }
+    bytes
+}
+
+// Where the fields of a table begin in its file.
+pub fn fields_place(counts: Counts, tag: Tag) -> usize
+    ensures { λ r. ⌜ (r ≡ fields-start counts tag) × (r < 2 ^ 44) ⌝ }
+{
+    bytes_before(counts, table_place(tag))
 }
 
 // How many bytes its file has.
 pub fn file_size(counts: Counts) -> usize
     ensures { λ r. ⌜ r ≡ file-size counts ⌝ }
 {
-    HEAD_FIELD
-        + counts.shippers as usize * SHIPPER_FIELD
-        + counts.points as usize * POINT_FIELD
-        + counts.entries as usize * ENTRY_FIELD
-        + counts.meters as usize * METER_FIELD
+    bytes_before(counts, TABLES)
 }

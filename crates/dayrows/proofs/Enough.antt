@@ -5,6 +5,7 @@ use Prim.Native.Nat.{ℕ, _+_, _*_, _<_}
 use borrow.Author.Tests.{eq-eqb}
 use native.Mathlib.Decide.{decLt}
 use native.Mathlib.Omega.{arith}
+use Rattle.columns.specs.Sum.{sum}
 use Rattle.dayformat.specs.declared.form.Tag.{Tag}
 use Rattle.dayformat.specs.declared.form.Tag.the-variants.{Shipper, Point}
 use Rattle.dayformat.specs.declared.layout.Counts.{Counts}
@@ -28,6 +29,7 @@ module _ (counts : Counts) (f : ℕ → ℕ) where
       witnessed _ _ row l (unmarked _ (form tag .key) (λ place h. rw (eq-eqb _ _ (same place h))))
 
   pub listed-shipper : (row at : ℕ) → row < counts .shippers → f (row * 6) ≡ f at → lists counts f Shipper at ≡ true
+  unfolding sum
   listed-shipper row at l name =
       listed-by Shipper row at l
       (λ place h. let here : place ≡ 0 = omega (arith, h) in rw here (ap f (omega arith) ∙ name ∙ ap f (omega arith)))

@@ -1,4 +1,6 @@
 pub mod Faults
+pub mod Fitting
+pub mod Naming
 pub mod Rising
 pub mod Same
 pub mod Searches

@@ -1,6 +1,7 @@
 -- A row's tests look at nothing but the numbers before the row's end and the counts of earlier tags.
 use mathlib.Core.Path.{_≡_, refl, ap}
 use mathlib.Core.Bool.{Bool, true, false, cond, not}
+use mathlib.Core.List.{List, [], _∷_}
 use Prim.Native.Nat.{ℕ, zero, suc, _+_, _<_}
 use lib.Dec.{leb, ltb}
 use native.Mathlib.Nat.{mul-le-mul-right}
@@ -8,38 +9,25 @@ use native.Mathlib.Omega.{arith}
 use borrow.Author.Tests.{ltb-true}
 use Rattle.columns.proofs.Firsts.{first-same}
 use Rattle.dayformat.specs.declared.form.Tag.{Tag}
-use Rattle.dayformat.specs.declared.form.Tag.the-variants.{Head, Shipper, Point, Entry, Meter}
+use Rattle.dayformat.specs.declared.rules.Name.{Name}
+use Rattle.dayformat.specs.declared.rules.Pair.{Pair}
 use Rattle.dayformat.specs.declared.layout.Counts.{Counts}
-use Rattle.dayformat.specs.Format.{body, column-in, form}
+use Rattle.dayformat.specs.Format.{body, names, mdqs, table-place, column-in, form}
 use Rattle.dayformat.specs.Layout.{count, table-start, row-start}
+use Rattle.dayformat.specs.Private.{Agree}
+use Rattle.dayformat.proofs.Every.{all-of, all-first}
+use Rattle.dayformat.proofs.Layouts.{before-same, before-next, before-within}
 use Rattle.dayformat.proofs.Small.{small}
 use Rattle.dayrows.specs.declared.Source.{Source}
 use Rattle.dayrows.specs.declared.Source.the-variants.{File, Side}
 use Rattle.dayrows.specs.declared.Test.{Test}
 use Rattle.dayrows.specs.declared.Test.the-variants.{Bounds, Key, Mdq}
-use Rattle.dayrows.specs.Test.{in-bounds, bounded, difference, less, rises, lists, named, names-known, starved, passes, fault}
+use Rattle.dayrows.specs.Test.{in-bounds, bounded, difference, less, rises, lists, all-listed, names-known, some-idle, passes, fault}
+use Rattle.dayrows.proofs.Fitting.{Fits, fits, fits-is, names-fit, inside-row, inside-row-is, mdqs-inside}
 
--- the tables before a tag's have as many rows
-abbrev pub Earlier : Tag → Counts → Counts → Type 0
-Earlier Head c d = Unit
-Earlier Shipper c d = Unit
-Earlier Point c d = c .shippers ≡ d .shippers
-Earlier Entry c d = (c .shippers ≡ d .shippers) × (c .points ≡ d .points)
-Earlier Meter c d = (c .shippers ≡ d .shippers) × (c .points ≡ d .points) × (c .entries ≡ d .entries)
-
-pub start-same : (tag : Tag) (c d : Counts) → Earlier tag c d → table-start c tag ≡ table-start d tag
-start-same Head c d e = refl
-start-same Shipper c d e = refl
-start-same Point c d e = rw e
-start-same Entry c d e = rw (e .0, e .1)
-start-same Meter c d e = rw (e .0, e .1, e .2)
-
-some-columns : (tag : Tag) → 0 < form tag .columns
-some-columns Head = omega arith
-some-columns Shipper = omega arith
-some-columns Point = omega arith
-some-columns Entry = omega arith
-some-columns Meter = omega arith
+-- the tables before a tag's begin where they did, and so does its own
+pub start-same : (tag : Tag) (c d : Counts) → Agree (table-place tag) c d → table-start c tag ≡ table-start d tag
+start-same tag c d e = before-same (table-place tag) c d e
 
 -- what follows a test counts only where it passes
 after-test : (t x y : Bool) → (t ≡ true → x ≡ y) → cond t x false ≡ cond t y false
@@ -95,39 +83,49 @@ module _ (f g : ℕ → ℕ) where
         rw (← start, ← many)
         (ap (λ row. ltb row (count c tag)) (first-same _ _ _ (λ row l. ap (leb (form tag .key)) (key-same row at l same here))))
 
-  named-same : (tag : Tag) (c d : Counts) (row : ℕ) → Earlier tag c d → Before (row-start c tag (suc row))
-      → named c f tag (row-start c tag row) ≡ named d g tag (row-start c tag row)
-  unfolding named
-  named-same Head c d row e same = refl
-  named-same Shipper c d row e same = refl
-  named-same Point c d row e same = refl
-  named-same Entry c d row e same =
-      let at = row-start c Entry row in
-      let point = lists-same Point c d (start-same Point c d (e .0)) at (e .1) in
-      let shipper = lists-same Shipper c d refl (at + 2) (e .0) in
-      rw (
-        point (λ place l. same place (omega arith)) (λ place l. same (at + place) (omega arith)),
-        shipper (λ place l. same place (omega arith)) (λ place l. same (at + 2 + place) (omega arith)),
-      )
-  named-same Meter c d row e same =
-      let at = row-start c Meter row in
-      lists-same Shipper c d refl at (e .0) (λ place l. same place (omega arith)) (λ place l. same (at + place) (omega arith))
+  -- the tables that a row names stand before its own
+  listed-same : (tag : Tag) (c d : Counts) (row : ℕ) → Agree (table-place tag) c d → Before (row-start c tag (suc row))
+      → (name : Name) → Fits tag name
+      → lists c f (name .tag) (row-start c tag row + name .place) ≡ lists d g (name .tag) (row-start c tag row + name .place)
+  listed-same tag c d row e same name F =
+      let before = F .before in
+      lists-same (name .tag) c d (start-same (name .tag) c d (λ place l. e place (omega (arith, l, before))))
+      (row-start c tag row + name .place)
+      (rw (F .table) at (e (table-place (name .tag)) before))
+      (λ place l.
+      same place
+      (omega (
+        arith,
+        l,
+        before-next c (name .tag) (F .table),
+        before-within c (suc (table-place (name .tag))) (table-place tag) before,
+      )))
+      (λ place l. same (row-start c tag row + name .place + place) (omega (arith, l, F .near)))
 
-  starved-same : (tag : Tag) (at : ℕ) → From at (form tag .columns) → starved f tag at ≡ starved g tag at
-  unfolding starved
-  starved-same Head at same = refl
-  starved-same Shipper at same =
-      rw (same 1 (omega arith), same 2 (omega arith), same 3 (omega arith), same 4 (omega arith))
-  starved-same Point at same = refl
-  starved-same Entry at same = refl
-  starved-same Meter at same = refl
+  names-same : (tag : Tag) (c d : Counts) (row : ℕ) → Agree (table-place tag) c d → Before (row-start c tag (suc row))
+      → (list : List Name) → all-of (fits tag) list ≡ true
+      → all-listed c f (row-start c tag row) list ≡ all-listed d g (row-start c tag row) list
+  unfolding all-listed
+  names-same tag c d row e same [] all = refl
+  names-same tag c d row e same (name ∷ rest) all =
+      let first = all-first (fits tag) name rest all in
+      rw (listed-same tag c d row e same name (fits-is tag name (first .0)), names-same tag c d row e same rest (first .1))
 
-  known-same : (source : Source) (tag : Tag) (c d : Counts) (row : ℕ) → Earlier tag c d → Before (row-start c tag (suc row))
+  idle-same : (tag : Tag) (at : ℕ) → From at (form tag .columns) → (list : List Pair) → all-of (inside-row tag) list ≡ true
+      → some-idle f at list ≡ some-idle g at list
+  unfolding some-idle
+  idle-same tag at same [] all = refl
+  idle-same tag at same (pair ∷ rest) all =
+      let first = all-first (inside-row tag) pair rest all in
+      let here = inside-row-is tag pair (first .0) in
+      rw (same (pair .mdq) (here .0), same (pair .schedule) (here .1), idle-same tag at same rest (first .1))
+
+  known-same : (source : Source) (tag : Tag) (c d : Counts) (row : ℕ) → Agree (table-place tag) c d → Before (row-start c tag (suc row))
       → names-known source c f tag (row-start c tag row) ≡ names-known source d g tag (row-start c tag row)
-  known-same File tag c d row e same = named-same tag c d row e same
+  known-same File tag c d row e same = names-same tag c d row e same (names tag) (names-fit tag)
   known-same (Side side) tag c d row e same = refl
 
-pub passes-same : (test : Test) (source : Source) (tag : Tag) (c d : Counts) (f g : ℕ → ℕ) (row : ℕ) → Earlier tag c d
+pub passes-same : (test : Test) (source : Source) (tag : Tag) (c d : Counts) (f g : ℕ → ℕ) (row : ℕ) → Agree (table-place tag) c d
     → ((place : ℕ) → place < row-start c tag (suc row) → f place ≡ g place)
     → passes test source c f tag row ≡ passes test source d g tag row
 unfolding passes
@@ -136,15 +134,15 @@ passes-same Bounds source tag c d f g row e same =
     rw (
       ← start-same tag c d e,
       bounded-same f g tag at (λ place l. same (at + place) (omega arith)),
-      same at (omega (arith, some-columns tag)),
+      same at (omega (arith, small tag .some-columns)),
     )
 passes-same Key source tag c d f g row e same =
     rw (rises-same f g tag c d (start-same tag c d e) row same, ← start-same tag c d e, known-same f g source tag c d row e same)
 passes-same Mdq source tag c d f g row e same =
     let at = row-start c tag row in
-    rw (← start-same tag c d e, starved-same f g tag at (λ place l. same (at + place) (omega arith)))
+    rw (← start-same tag c d e, idle-same f g tag at (λ place l. same (at + place) (omega arith)) (mdqs tag) (mdqs-inside tag))
 
-pub fault-same : (source : Source) (tag : Tag) (c d : Counts) (f g : ℕ → ℕ) (row : ℕ) → Earlier tag c d
+pub fault-same : (source : Source) (tag : Tag) (c d : Counts) (f g : ℕ → ℕ) (row : ℕ) → Agree (table-place tag) c d
     → ((place : ℕ) → place < row-start c tag (suc row) → f place ≡ g place)
     → fault source c f tag row ≡ fault source d g tag row
 unfolding fault

@@ -6,7 +6,7 @@ use borrow.Author.Tests.{leb-true, ltb-true, not-false, le-leb, lt-leb}
 use native.Mathlib.Omega.{arith}
 use Rattle.columns.proofs.Firsts.{first-passed}
 use Rattle.dayformat.specs.declared.form.Tag.{Tag}
-use Rattle.dayformat.specs.declared.form.Column.{Column}
+use Rattle.dayformat.specs.declared.body.Column.{Column}
 use Rattle.dayformat.specs.declared.layout.Counts.{Counts}
 use Rattle.dayformat.specs.Format.{body, column-in, form}
 use Rattle.dayformat.specs.Layout.{row-start}

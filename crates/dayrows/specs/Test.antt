@@ -1,14 +1,16 @@
 -- 01, "The day file" and "Refusal numbers": the tests of a row among a day's numbers, for a file and for the writer alike.
 use mathlib.Core.Bool.{Bool, true, false, cond, not}
+use mathlib.Core.List.{List, [], _∷_}
 use Prim.Native.Nat.{ℕ, zero, suc, _+_}
 use lib.Dec.{leb, ltb, eqb}
 use Rattle.columns.specs.First.{first}
 use Rattle.daytable.specs.Acceptance.{idle}
 use Rattle.dayformat.specs.declared.form.Tag.{Tag}
-use Rattle.dayformat.specs.declared.form.Tag.the-variants.{Head, Shipper, Point, Entry, Meter}
-use Rattle.dayformat.specs.declared.form.Column.{Column}
+use Rattle.dayformat.specs.declared.rules.Name.{Name}
+use Rattle.dayformat.specs.declared.rules.Pair.{Pair}
+use Rattle.dayformat.specs.declared.body.Column.{Column}
 use Rattle.dayformat.specs.declared.layout.Counts.{Counts}
-use Rattle.dayformat.specs.Format.{body, column-in, form}
+use Rattle.dayformat.specs.Format.{body, names, mdqs, column-in, form}
 use Rattle.dayformat.specs.Layout.{count, row-start}
 use Rattle.dayrows.specs.declared.Source.{Source}
 use Rattle.dayrows.specs.declared.Source.the-variants.{File, Side}
@@ -52,13 +54,14 @@ lists counts numbers tag at =
     ltb (first (count counts tag) (λ row. leb (form tag .key) (difference numbers (form tag .key) (row-start counts tag row) at)))
     (count counts tag)
 
--- tags 4 and 5 name only shippers and points listed before
-unfoldable pub named : Counts → (ℕ → ℕ) → Tag → ℕ → Bool
-named counts numbers Head at = true
-named counts numbers Shipper at = true
-named counts numbers Point at = true
-named counts numbers Entry at = cond (lists counts numbers Point at) (lists counts numbers Shipper (at + 2)) false
-named counts numbers Meter at = lists counts numbers Shipper at
+-- every name of the row that begins at a place is listed
+unfoldable pub all-listed : Counts → (ℕ → ℕ) → ℕ → List Name → Bool
+all-listed counts numbers at [] = true
+all-listed counts numbers at (name ∷ rest) =
+    cond (lists counts numbers (name .tag) (at + name .place)) (all-listed counts numbers at rest) false
+
+abbrev pub named : Counts → (ℕ → ℕ) → Tag → ℕ → Bool
+named counts numbers tag at = all-listed counts numbers at (names tag)
 
 -- in a list of entries names aren't looked up
 abbrev pub names-known : Source → Counts → (ℕ → ℕ) → Tag → ℕ → Bool
@@ -67,13 +70,13 @@ names-known (Side side) counts numbers tag at = true
 
 -- ---- 4
 -- a firm or auction schedule above zero with that MDQ zero
-unfoldable pub starved : (ℕ → ℕ) → Tag → ℕ → Bool
-starved numbers Head at = false
-starved numbers Shipper at =
-    cond (idle (numbers (at + 1)) (numbers (at + 3))) true (idle (numbers (at + 2)) (numbers (at + 4)))
-starved numbers Point at = false
-starved numbers Entry at = false
-starved numbers Meter at = false
+unfoldable pub some-idle : (ℕ → ℕ) → ℕ → List Pair → Bool
+some-idle numbers at [] = false
+some-idle numbers at (pair ∷ rest) =
+    cond (idle (numbers (at + pair .mdq)) (numbers (at + pair .schedule))) true (some-idle numbers at rest)
+
+abbrev pub starved : (ℕ → ℕ) → Tag → ℕ → Bool
+starved numbers tag at = some-idle numbers at (mdqs tag)
 
 -- ---- the tests in 01's order, and the number of the first that a row fails, 0 for none
 unfoldable pub passes : Test → Source → Counts → (ℕ → ℕ) → Tag → ℕ → Bool

@@ -1,9 +1,11 @@
 // 5: a key that does not rise, or names something not listed.
 use crate::bounds::number_of;
 use dayformat::Counts;
+use dayformat::NAMES;
 use dayformat::Tag;
 use dayformat::count_of;
 use dayformat::form_of;
+use dayformat::names_of;
 use dayformat::row_place;
 ghost use mathlib.Core.Path.{_≡_};
 ghost use Prim.Native.Nat.{_^_, _≤_, _<_};
@@ -64,16 +66,15 @@ pub fn is_named(counts: Counts, numbers: &[usize], tag: Tag, at: usize) -> bool
     requires { ⌜ at < 2 ^ 40 ⌝ }
     ensures { λ r. ⌜ r ≡ named counts (col (now (numbers .entry))) tag at ⌝ }
 {
-    match tag {
-        Tag::Head => true,
-        Tag::Shipper => true,
-        Tag::Point => true,
-        Tag::Entry => {
-            if lists(counts, numbers, Tag::Point, at) {
-                return lists(counts, numbers, Tag::Shipper, at + 2);
-            }
-            false
+    let names = names_of(tag);
+    let mut next = 0;
+    while next < NAMES {
+        let name = names[next];
+        let listing = name.tag;
+        if !lists(counts, numbers, listing, at + name.place) {
+            return false;
         }
-        Tag::Meter => lists(counts, numbers, Tag::Shipper, at),
+        next += 1;
     }
+    true
 }

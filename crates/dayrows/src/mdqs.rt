@@ -1,6 +1,8 @@
 // 4: a firm or auction schedule above zero with that MDQ zero.
 use crate::bounds::number_of;
+use dayformat::MDQS;
 use dayformat::Tag;
+use dayformat::mdqs_of;
 ghost use mathlib.Core.Path.{_≡_};
 ghost use Prim.Native.Nat.{_^_, _<_};
 ghost use Rattle.columns.specs.Column.{col};
@@ -17,21 +19,20 @@ pub fn is_idle(mdq: usize, schedule: usize) -> bool
     false
 }
 
-// Whether a shipper's row that begins at a place has a schedule without its MDQ.
+// Whether the row that begins at a place has a schedule without its MDQ.
 pub fn is_starved(numbers: &[usize], tag: Tag, at: usize) -> bool
     requires { ⌜ at < 2 ^ 40 ⌝ }
     ensures { λ r. ⌜ r ≡ starved (col (now (numbers .entry))) tag at ⌝ }
 {
-    match tag {
-        Tag::Head => false,
-        Tag::Shipper => {
-            if is_idle(number_of(numbers, at + 1), number_of(numbers, at + 3)) {
-                return true;
-            }
-            is_idle(number_of(numbers, at + 2), number_of(numbers, at + 4))
+    let mdqs = mdqs_of(tag);
+    let mut next = 0;
+    while next < MDQS {
+        let pair = mdqs[next];
+        let mdq = number_of(numbers, at + pair.mdq);
+        if is_idle(mdq, number_of(numbers, at + pair.schedule)) {
+            return true;
         }
-        Tag::Point => false,
-        Tag::Entry => false,
-        Tag::Meter => false,
+        next += 1;
     }
+    false
 }

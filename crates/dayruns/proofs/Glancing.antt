@@ -1,7 +1,8 @@
 -- A row that is laid again is laid as it was, so a field that is not seen to be sound can be taken afresh.
 use mathlib.Core.Path.{_≡_, refl, ap, ap₂, sym, _∙_}
-use mathlib.Core.Bool.{Bool, true, false, cond, true≢false}
+use mathlib.Core.Bool.{Bool, true, false, true≢false}
 use mathlib.Core.List.{List, _++_, append-assoc}
+use mathlib.Core.Logic.{⊎-elim}
 use Prim.Native.Nat.{ℕ, _+_, _≤_}
 use native.Mathlib.Omega.{arith}
 use borrow.Author.Tests.{eq-eqb}
@@ -22,11 +23,9 @@ use Rattle.dayrows.specs.Test.{rises, named, passes, fault}
 use Rattle.dayrows.specs.Whole.{broken, with-row}
 use Rattle.dayrows.proofs.Faults.{none-fault}
 use Rattle.dayrows.proofs.Within.{both}
-use Rattle.daybodies.specs.Body.{ready, orderly, BodyRead}
-use Rattle.daybodies.proofs.Bodies.{is-ready, kept-row}
 use Rattle.dayfields.specs.Field.{Taken}
 use Rattle.dayfields.proofs.Taking.{taken-whole}
-use Rattle.dayruns.specs.Private.{Glanced}
+use Rattle.dayruns.specs.Private.{Ready, orderly, RowRead, Glanced}
 
 -- ---- numbers laid twice
 module _ (vs l : List ℕ) (i : ℕ) (room : i + length vs ≤ length l) where
@@ -72,35 +71,26 @@ module _ (source : Source) (counts : Counts) (file : List ℕ) (tag : Tag) (at r
   unseen = record { sure = λ no. absurd (true≢false (sym no)); again = λ T. T }
 
   -- a row laid again
-  module _ (on : ready counts file tag at row (length lent) ≡ true) where
-    whole : broken file tag at ≡ 0
-    whole = is-ready counts file tag at row (length lent) on .whole
-
+  module _ (ready : Ready file tag at (row-start counts tag row) (length lent)) where
     same : with-row counts file tag at row (with-row counts file tag at row lent) ≡ with-row counts file tag at row lent
     same =
         let numbers = decode (widths tag) (drop (at + 3) file) in
         let long : length numbers ≡ form tag .columns = length-decode (widths tag) _ ∙ length-listed _ _ in
-        let fits = is-ready counts file tag at row (length lent) on .fits in
-        sets-twice numbers lent (row-start counts tag row) (omega (arith, fits, long))
+        sets-twice numbers lent (row-start counts tag row) (omega (arith, ready .1, long))
 
     afresh : {last : List ℕ} {number : ℕ} → Taken source counts file tag at row (with-row counts file tag at row lent) last number
         → Taken source counts file tag at row lent last number
     afresh {last} {number} T =
-        let here = eq-eqb (broken file tag at) 0 whole in
+        let here = eq-eqb (broken file tag at) 0 (ready .0) in
         let there : last ≡ with-row counts file tag at row lent = T .lays ∙ rw (here, same) in
-        taken-whole source counts file tag at row lent (sym whole) refl there (T .answers ∙ rw (here, same, there))
+        taken-whole source counts file tag at row lent (sym (ready .0)) refl there (T .answers ∙ rw (here, same, there))
 
-  module _ {after : List ℕ} {kept : Bool} (B : BodyRead counts file tag at row lent after kept) where
-    -- a field that is ready is laid, any other leaves the numbers alone
+  module _ {after : List ℕ} {kept : Bool} (R : RowRead counts file tag at row lent after kept) where
+    -- a row is laid as it was, or the numbers are left alone
     again : {last : List ℕ} {number : ℕ} → Taken source counts file tag at row after last number
         → Taken source counts file tag at row lent last number
-    again T = by (ready counts file tag at row (length lent)) refl (rw (B .lays) at T)
-      where
-        by : {last : List ℕ} {number : ℕ} (on : Bool) → ready counts file tag at row (length lent) ≡ on
-            → Taken source counts file tag at row (cond on (with-row counts file tag at row lent) lent) last number
-            → Taken source counts file tag at row lent last number
-        by true on T = afresh on T
-        by false off T = T
+    again {last} {number} T =
+        ⊎-elim (λ left. rw left at T) (λ laid. afresh (laid .0) (rw (laid .1) at T)) (R .lays)
 
     pub glanced : {sound : Bool}
         → (sound ≡ true → (kept ≡ true) × (source ≡ File) × (named counts (col after) tag (row-start counts tag row) ≡ true))
@@ -110,10 +100,9 @@ module _ (source : Source) (counts : Counts) (file : List ℕ) (tag : Tag) (at r
         sure : (kept ≡ true) × (source ≡ File) × (named counts (col after) tag (row-start counts tag row) ≡ true)
             → Taken source counts file tag at row lent after 0
         sure seen =
-            let asked = kept-row B (seen .0) in
-            let there : after ≡ with-row counts file tag at row lent = B .lays ∙ rw (asked .0) in
-            let none = sound-named counts (col after) tag row (rw there (asked .1)) (seen .2) in
-            taken-whole source counts file tag at row lent (sym (whole (asked .0))) refl there (rw (seen .1) (sym none))
+            let read = R .keeps (seen .0) in
+            let none = sound-named counts (col after) tag row (read .2) (seen .2) in
+            taken-whole source counts file tag at row lent (sym (read .0 .0)) refl (read .1) (rw (seen .1) (sym none))
 
     -- a row laid, and no more said of it
     pub unsure : Glanced source counts file tag at row lent after false

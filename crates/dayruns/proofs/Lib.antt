@@ -1,7 +1,12 @@
+pub mod BodyReading
 pub mod Decided
 pub mod Determined
 pub mod Ending
+pub mod Finding
+pub mod Following
 pub mod Fronts
 pub mod Glancing
+pub mod KindReading
+pub mod RowReading
 pub mod Running
 pub mod Runs

@@ -1,19 +1,20 @@
 // A field seen to be sound at a glance: its row is read once, with its tag's own steps. What is not seen so is taken in full.
 use crate::names::Near;
 use crate::names::near_entry;
-use crate::names::shipper_from;
-use daybodies::read_entry;
-use daybodies::read_meter;
-use daybodies::read_point;
-use daybodies::read_shipper;
+use crate::names::row_from;
+use crate::row::read_entry_row;
+use crate::row::read_row;
 use dayformat::Counts;
+use dayformat::ENTRY_BYTE;
 use dayformat::Tag;
-use dayformat::row_place;
+use dayformat::count_of;
+use dayformat::form_of;
+use dayformat::names_of;
 use dayrows::Source;
 ghost use mathlib.Core.Path.{_≡_};
 ghost use mathlib.Core.Bool.{true};
 ghost use Rattle.dayrows.specs.declared.Source.the-variants.{File};
-ghost use Rattle.dayruns.specs.Private.{Glanced};
+ghost use Rattle.dayruns.specs.Private.{Placed, Glanced};
 
 // Whether a field is seen to be sound, and the rows that its names were found in.
 pub struct Glance {
@@ -27,46 +28,57 @@ fn glance_at_entry(
     at: usize,
     row: u32,
     numbers: &mut [usize],
+    to: usize,
     near: Near,
 ) -> Glance
+    requires { ⌜ Placed counts Tag.Entry row to ⌝ }
     ensures { λ r. ⌜ Glanced Source.File counts (now (file .entry)) Tag.Entry at row
         (now (numbers .entry)) (now (numbers .exit)) (r .sound) ⌝ }
 {
-    if !read_entry(counts, file, at, row, numbers) {
+    if !read_entry_row(counts, file, at, row, numbers, to) {
         return Glance { sound: false, near };
     }
-    let to = row_place(counts, Tag::Entry, row);
     let found = near_entry(counts, numbers, to, near);
-    if counts.points as usize <= found.point {
+    if counts.points as usize <= found.first {
         return Glance { sound: false, near };
     }
     Glance {
-        sound: found.shipper < counts.shippers as usize,
+        sound: found.second < counts.shippers as usize,
         near: found,
     }
 }
 
-fn glance_at_meter(
+// Any other row, whose names are looked for one after another.
+fn glance_at_row(
     counts: Counts,
     file: &[u8],
+    tag: Tag,
     at: usize,
     row: u32,
     numbers: &mut [usize],
+    to: usize,
     near: Near,
 ) -> Glance
-    ensures { λ r. ⌜ Glanced Source.File counts (now (file .entry)) Tag.Meter at row
+    requires { ⌜ Placed counts tag row to ⌝ }
+    ensures { λ r. ⌜ Glanced Source.File counts (now (file .entry)) tag at row
         (now (numbers .entry)) (now (numbers .exit)) (r .sound) ⌝ }
 {
-    if !read_meter(counts, file, at, row, numbers) {
+    if !read_row(counts, file, tag, at, row, numbers, to) {
         return Glance { sound: false, near };
     }
-    let to = row_place(counts, Tag::Meter, row);
-    let shippers = counts.shippers as usize;
-    let shipper = shipper_from(numbers, shippers, near.shipper, numbers[to]);
-    let point = near.point;
+    let names = names_of(tag);
+    let one = names[0];
+    let one_tag = one.tag;
+    let first = row_from(counts, numbers, one_tag, to + one.place, near.first);
+    let other = names[1];
+    let other_tag = other.tag;
+    let second = row_from(counts, numbers, other_tag, to + other.place, near.second);
+    if count_of(counts, one_tag) as usize <= first {
+        return Glance { sound: false, near };
+    }
     Glance {
-        sound: shipper < shippers,
-        near: Near { point, shipper },
+        sound: second < count_of(counts, other_tag) as usize,
+        near: Near { first, second },
     }
 }
 
@@ -89,25 +101,17 @@ pub fn glance_at(
     at: usize,
     row: u32,
     numbers: &mut [usize],
+    to: usize,
     near: Near,
 ) -> Glance
+    requires { ⌜ Placed counts tag row to ⌝ }
     ensures { λ r. ⌜ Glanced source counts (now (file .entry)) tag at row (now (numbers .entry)) (now (numbers .exit)) (r .sound) ⌝ }
 {
     if !is_file(source) {
         return Glance { sound: false, near };
     }
-    match tag {
-        // A file has one head, which is taken in full.
-        Tag::Head => Glance { sound: false, near },
-        Tag::Shipper => Glance {
-            sound: read_shipper(counts, file, at, row, numbers),
-            near,
-        },
-        Tag::Point => Glance {
-            sound: read_point(counts, file, at, row, numbers),
-            near,
-        },
-        Tag::Entry => glance_at_entry(counts, file, at, row, numbers, near),
-        Tag::Meter => glance_at_meter(counts, file, at, row, numbers, near),
+    if form_of(tag).byte == ENTRY_BYTE {
+        return glance_at_entry(counts, file, at, row, numbers, to, near);
     }
+    glance_at_row(counts, file, tag, at, row, numbers, to, near)
 }

@@ -1,6 +1,10 @@
 // The fields of one tag in a file or in a list of entries, taken one after another and tested, opened.
+mod body;
 mod glance;
+mod key;
+mod kind;
 mod names;
+mod row;
 mod run;
 mod walk;
 

@@ -4,12 +4,15 @@ use crate::names::NOWHERE;
 use crate::names::Near;
 use dayfields::take_field;
 use dayformat::Counts;
+use dayformat::HEADER;
 use dayformat::Tag;
 use dayformat::form_of;
+use dayformat::row_place;
 use dayrows::Source;
 ghost use mathlib.Core.Path.{_≡_};
 ghost use Rattle.dayfields.specs.Field.{Taken};
 ghost use Rattle.dayruns.specs.Run.{begun, Ran};
+ghost use Rattle.dayruns.specs.Private.{Placed};
 
 // How many sound fields there are, where they end, and the number of the fault there, 0 for none.
 pub struct Run {
@@ -43,11 +46,13 @@ fn take_near(
     at: usize,
     row: u32,
     numbers: &mut [usize],
+    to: usize,
     near: Near,
 ) -> Step
+    requires { ⌜ Placed counts tag row to ⌝ }
     ensures { λ r. ⌜ Taken source counts (now (file .entry)) tag at row (now (numbers .entry)) (now (numbers .exit)) (r .fault) ⌝ }
 {
-    let seen = glance_at(source, counts, file, tag, at, row, numbers, near);
+    let seen = glance_at(source, counts, file, tag, at, row, numbers, to, near);
     let found = seen.near;
     if seen.sound {
         return Step {
@@ -74,12 +79,14 @@ pub fn run_fields(
         (now (numbers .exit))
         r ⌝ }
 {
-    let size = 3 + form_of(tag).size;
+    let form = form_of(tag);
+    let size = HEADER + form.size;
+    let mut to = row_place(counts, tag, 0);
     let mut near = NOWHERE;
     let mut rows = 0;
     let mut place = at;
     while begins(file, tag, place) {
-        let step = take_near(source, counts, file, tag, place, rows, numbers, near);
+        let step = take_near(source, counts, file, tag, place, rows, numbers, to, near);
         let fault = step.fault;
         if fault != 0 {
             return Run { rows, place, fault };
@@ -87,6 +94,7 @@ pub fn run_fields(
         near = step.near;
         rows += 1;
         place += size;
+        to += form.columns;
     }
     Run {
         rows,

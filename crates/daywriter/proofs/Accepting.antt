@@ -11,12 +11,14 @@ use Rattle.units.specs.declared.refusal.Check.{Check}
 use Rattle.units.specs.Bound.{most-gigajoules}
 use Rattle.units.specs.Refusals.{clear}
 use Rattle.units.proofs.Checks.{both-accepted, kept, cleared, accepts-both, accepts-kept, accepts-clear}
+use Rattle.units.proofs.Testing.{each-accepted, accepts-each}
 use Rattle.dayformat.specs.declared.day.Day.{Day}
 use Rattle.dayformat.specs.declared.form.Tag.{Tag}
-use Rattle.dayformat.specs.declared.form.Tag.the-variants.{Head, Shipper, Point, Entry, Meter}
 use Rattle.dayformat.specs.declared.layout.Counts.{Counts}
+use Rattle.dayformat.specs.Format.{many-tables, tag-at, table-place}
 use Rattle.dayformat.specs.Layout.{count}
 use Rattle.dayformat.specs.Private.{HasTable, Few}
+use Rattle.dayformat.proofs.Every.{inside, table-at}
 use Rattle.dayformat.proofs.Accepting.{counts-accepted, counts-accept}
 use Rattle.dayrows.specs.declared.Source.the-variants.{File}
 use Rattle.dayrows.specs.declared.Test.{Test}
@@ -42,29 +44,14 @@ module _ (test : Test) (number : ℕ) (counts : Counts) (numbers : ℕ → ℕ) 
 
   tables-passed : tables-check test number counts numbers ≡ Check.Accepted → (tag : Tag) → HasTable tag → Passed test counts numbers tag
   unfolding tables-check
-  tables-passed e =
-      let meter = both-accepted _ _ e in
-      let entry = both-accepted _ _ (meter .0) in
-      let point = both-accepted _ _ (entry .0) in
-      let shipper = both-accepted _ _ (point .0) in
-      by (shipper .1) (point .1) (entry .1) (meter .1)
-    where
-      by : clear-at Shipper ≡ Check.Accepted → clear-at Point ≡ Check.Accepted → clear-at Entry ≡ Check.Accepted
-          → clear-at Meter ≡ Check.Accepted → (tag : Tag) → HasTable tag → Passed test counts numbers tag
-      by s p e m Head none = absurd none
-      by s p e m Shipper T = table-passed Shipper s
-      by s p e m Point T = table-passed Point p
-      by s p e m Entry T = table-passed Entry e
-      by s p e m Meter T = table-passed Meter m
+  tables-passed e tag t =
+      table-passed tag (rw t at (each-accepted (λ place. clear-at (tag-at place)) many-tables e (table-place tag) (inside tag)))
 
   tables-clear : ((tag : Tag) → HasTable tag → Passed test counts numbers tag) → tables-check test number counts numbers ≡ Check.Accepted
   unfolding tables-check
   tables-clear pass =
-      accepts-both
-      (accepts-both
-      (accepts-both (accepts-both refl (table-clear Shipper (pass Shipper tt))) (table-clear Point (pass Point tt)))
-      (table-clear Entry (pass Entry tt)))
-      (table-clear Meter (pass Meter tt))
+      accepts-each (λ place. clear-at (tag-at place)) many-tables
+      (λ place l. table-clear (tag-at place) (pass (tag-at place) (table-at place l)))
 
 -- ---- the head and the counts
 singles-accept : (day : Day) → day .head .«free_flow» .0 ≤ most-gigajoules → day .head .compressor .0 ≤ most-gigajoules

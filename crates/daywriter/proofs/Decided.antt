@@ -5,9 +5,10 @@ use Prim.Native.Nat.{ℕ}
 use lib.Dec.{T, leb}
 use lib.ListN.{length}
 use Rattle.units.specs.Verdict.{Decided}
-use Rattle.units.proofs.Verdicts.{AllNumbered, none, _and_, kept-by, cleared-by, decided}
+use Rattle.units.proofs.Verdicts.{AllNumbered, none, _and_, kept-by, cleared-by, each-by, decided}
 use Rattle.dayformat.specs.declared.day.Day.{Day}
 use Rattle.dayformat.specs.declared.layout.Counts.{Counts}
+use Rattle.dayformat.specs.Format.{many-tables}
 use Rattle.dayformat.specs.Layout.{file-size}
 use Rattle.dayformat.proofs.Decided.{counts-numbered}
 use Rattle.dayrows.specs.declared.Test.{Test}
@@ -23,7 +24,7 @@ tables-numbered : (test : Test) (number : ℕ) (counts : Counts) (numbers : ℕ 
     → AllNumbered (tables-check test number counts numbers)
 unfolding tables-check
 tables-numbered test number counts numbers l m =
-    none and cleared-by _ _ number l m and cleared-by _ _ number l m and cleared-by _ _ number l m and cleared-by _ _ number l m
+    each-by _ many-tables (λ place. cleared-by _ _ number l m)
 
 rows-numbered : (counts : Counts) (numbers : ℕ → ℕ) → AllNumbered (rows-check counts numbers)
 unfolding rows-check

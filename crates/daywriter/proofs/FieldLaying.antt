@@ -1,13 +1,17 @@
 -- The fields of a day laid into a block one after another.
-use mathlib.Core.Path.{_≡_, refl, ap, sym, _∙_}
-use mathlib.Core.List.{List, [], _∷_, _++_}
-use Prim.Native.Nat.{ℕ, _+_, _*_}
+use mathlib.Core.Path.{_≡_, refl, ap, sym}
+use mathlib.Core.List.{List, [], _∷_}
+use Prim.Native.Nat.{ℕ, _+_, _*_, _<_}
 use native.Mathlib.Nat.{zero-add}
 use native.Mathlib.Numerals.{add-one}
 use native.Mathlib.Omega.{arith}
+use borrow.Author.Tests.{ltb-true}
+use lib.Dec.{ltb}
 use lib.ListN.{length}
 use lib.Seq.{sets, length-sets}
 use Rattle.columns.specs.Column.{col, listed, joined}
+use Rattle.columns.specs.First.{first-from}
+use Rattle.columns.specs.Sum.{sum}
 use Rattle.text.specs.Text.{Laid}
 use Rattle.text.proofs.Laying.{laid-both}
 use Rattle.bigendian.specs.Number.{bytes}
@@ -16,21 +20,20 @@ use Rattle.bigendian.proofs.Numbers.{length-bytes}
 use Rattle.dayformat.specs.declared.day.Day.{Day}
 use Rattle.dayformat.specs.declared.form.Form.{Form}
 use Rattle.dayformat.specs.declared.form.Tag.{Tag}
-use Rattle.dayformat.specs.declared.form.Tag.the-variants.{Head, Shipper, Point, Entry, Meter}
+use Rattle.dayformat.specs.declared.form.Tag.the-variants.{Head}
 use Rattle.dayformat.specs.declared.layout.Counts.{Counts}
-use Rattle.dayformat.specs.Format.{widths, field-size, form, field}
+use Rattle.dayformat.specs.Format.{many-tables, tag-at, widths, field-size, form, field}
 use Rattle.dayformat.specs.Layout.{count, row-start, run-size}
 use Rattle.dayformat.specs.DayBytes.{row-from, head-row, fields, file-of}
-use Rattle.dayformat.proofs.Sizes.{head-size, length-field, length-row-field, length-fields}
+use Rattle.dayformat.proofs.Every.{passes-every}
+use Rattle.dayformat.proofs.Sizes.{length-field, length-row-field, length-fields}
 
 -- a tag's byte spells its number
 tag-bytes : (tag : Tag) → bytes 1 (form tag .byte) ≡ form tag .byte ∷ []
-unfolding bytes
-tag-bytes Head = refl
-tag-bytes Shipper = refl
-tag-bytes Point = refl
-tag-bytes Entry = refl
-tag-bytes Meter = refl
+unfolding bytes first-from
+tag-bytes tag =
+    let small : form tag .byte < 256 = ltb-true _ _ (passes-every (λ tag. ltb (form tag .byte) 256) refl (omega arith) tag) in
+    ap (λ byte. byte ∷ []) (omega (arith, small))
 
 -- ---- the tag, the length, the body
 module _ (tag : Tag) (row lent : List ℕ) (at : ℕ) where
@@ -77,23 +80,51 @@ module _ (counts : Counts) (numbers : ℕ → ℕ) (tag : Tag) (lent : List ℕ)
         → (list ≡ sets lent at (fields counts numbers tag)) × (byte ≡ at + run-size counts tag)
     fielding-all e = rw (← e) (L .laid .lays, L .ends)
 
--- ---- the head's field, out of a list of its three numbers, then those of each tag in order
-module _ (day : Day) (numbers : ℕ → ℕ) (lent : List ℕ) where
-  -- the fields of a tag laid from a byte on, and the byte where they end
-  abbrev pub Tagged : Tag → List ℕ → ℕ → List ℕ → ℕ → Type 0
-  Tagged tag list at after ends = (after ≡ sets list at (fields (day .counts) numbers tag)) × (ends ≡ at + run-size (day .counts) tag)
+-- ---- a loop has laid the fields of the tables before `place`, up to `byte`
+abbrev fields-at : Counts → (ℕ → ℕ) → ℕ → List ℕ
+fields-at counts numbers place = fields counts numbers (tag-at place)
 
-  tag-next : (tag : Tag) {ahead list after : List ℕ} {at ends : ℕ} → Laid ahead lent 0 at list → Tagged tag list at after ends
-      → Laid (ahead ++ fields (day .counts) numbers tag) lent 0 ends after
-  tag-next tag L T =
-      rw (T .1) (laid-both L (record { counts = sym (length-fields numbers tag (day .counts)); lays = rw zero-add (T .0) }))
+abbrev run-at : Counts → ℕ → ℕ
+run-at counts place = run-size counts (tag-at place)
 
-  pub file-laid : {headed shipped pointed entered after : List ℕ} {points entries meters ends : ℕ}
-      → headed ≡ sets lent 0 (field Head (row-from (col (head-row (day .head))) Head 0)) → Tagged Shipper headed 15 shipped points
-      → Tagged Point shipped points pointed entries → Tagged Entry pointed entries entered meters → Tagged Meter entered meters after ends
-      → after ≡ sets lent 0 (file-of day numbers)
-  unfolding file-of listed
-  file-laid heads ships points enters meters =
-      let headed : Laid (field Head (head-row (day .head))) lent 0 15 _ =
-      record { counts = sym (length-field Head (head-row (day .head)) refl ∙ head-size); lays = heads }
-      in tag-next Meter (tag-next Entry (tag-next Point (tag-next Shipper headed ships) points) enters) meters .lays
+pub record Tabling (counts : Counts) (numbers : ℕ → ℕ) (lent : List ℕ) (at place : ℕ) (list : List ℕ) (byte : ℕ) : Type 0 where
+  pub laid : Laid (joined place (fields-at counts numbers)) lent at (sum place (run-at counts)) list
+  pub ends : byte ≡ at + sum place (run-at counts)
+
+module _ (counts : Counts) (numbers : ℕ → ℕ) (lent : List ℕ) (at : ℕ) where
+  pub tabling-none : Tabling counts numbers lent at 0 lent at
+  unfolding joined sum
+  tabling-none = record { laid = record { counts = refl; lays = refl }; ends = omega arith }
+
+  module _ (place : ℕ) {list : List ℕ} {byte : ℕ} (L : Tabling counts numbers lent at place list byte) where
+    pub tabling-next : {tag : Tag} {after : List ℕ} {next : ℕ} → tag ≡ tag-at place
+        → after ≡ sets list byte (fields counts numbers tag) → next ≡ byte + run-size counts tag
+        → Tabling counts numbers lent at (place + 1) after next
+    unfolding joined sum
+    tabling-next is lays ends =
+        record {
+          laid =
+              rw add-one
+              (laid-both (L .laid)
+              (record { counts = sym (length-fields numbers (tag-at place) counts); lays = rw (is, L .ends) at lays }));
+          ends = rw add-one (omega (arith, L .ends, rw is at ends));
+        }
+
+    pub tabling-long : length list ≡ length lent
+    tabling-long = rw (L .laid .lays, length-sets)
+
+    pub tabling-all : place ≡ many-tables → list ≡ sets lent at (joined many-tables (fields-at counts numbers))
+    tabling-all e = rw (← e) (L .laid .lays)
+
+-- ---- the head's field, out of a list of its three numbers, then those of the tables
+pub file-laid : (day : Day) (numbers : ℕ → ℕ) (lent : List ℕ) {headed after : List ℕ}
+    → headed ≡ sets lent 0 (field Head (row-from (col (head-row (day .head))) Head 0))
+    → after ≡ sets headed (field-size Head) (joined many-tables (λ place. fields (day .counts) numbers (tag-at place)))
+    → after ≡ sets lent 0 (file-of day numbers)
+unfolding file-of listed
+file-laid day numbers lent {headed} {after} heads lays =
+    let head : Laid (field Head (head-row (day .head))) lent 0 (field-size Head) headed =
+    record { counts = sym (length-field Head (head-row (day .head)) refl); lays = heads }
+    in let tables : Laid (joined many-tables (fields-at (day .counts) numbers)) headed (0 + field-size Head) _ after =
+    record { counts = refl; lays = rw zero-add lays }
+    in laid-both head tables .lays

@@ -14,7 +14,7 @@ use Rattle.bigendian.specs.Number.{bytes, widest}
 use Rattle.bigendian.specs.Row.{encode}
 use Rattle.bigendian.proofs.Numbers.{length-bytes, bytes-above}
 use Rattle.dayformat.specs.declared.form.Tag.{Tag}
-use Rattle.dayformat.specs.declared.form.Column.{Column}
+use Rattle.dayformat.specs.declared.body.Column.{Column}
 use Rattle.dayformat.specs.Format.{body, column-in, widths, form}
 use Rattle.dayformat.specs.DayBytes.{row-from}
 use Rattle.dayformat.proofs.Small.{narrow}

@@ -7,10 +7,10 @@ use Rattle.columns.specs.Column.{col}
 use Rattle.units.specs.declared.refusal.Check.{Check}
 use Rattle.units.specs.Bound.{most-gigajoules}
 use Rattle.units.specs.Refusals.{_then_, keep, clear}
+use Rattle.units.specs.Each.{each}
 use Rattle.dayformat.specs.declared.day.Day.{Day}
-use Rattle.dayformat.specs.declared.form.Tag.{Tag}
-use Rattle.dayformat.specs.declared.form.Tag.the-variants as Tag
 use Rattle.dayformat.specs.declared.layout.Counts.{Counts}
+use Rattle.dayformat.specs.Format.{many-tables, tag-at}
 use Rattle.dayformat.specs.Layout.{count, numbers-in, file-size}
 use Rattle.dayformat.specs.Acceptance.{counts-check}
 use Rattle.dayrows.specs.declared.Test.{Test}
@@ -28,11 +28,7 @@ singles-check day =
 -- one test over the tables in file order: refused by its number at the lowest row
 unfoldable pub tables-check : Test → ℕ → Counts → (ℕ → ℕ) → Check
 tables-check test number counts numbers =
-    Check.Accepted
-    then clear (count counts Tag.Shipper) (first-failing test counts numbers Tag.Shipper) number
-    then clear (count counts Tag.Point) (first-failing test counts numbers Tag.Point) number
-    then clear (count counts Tag.Entry) (first-failing test counts numbers Tag.Entry) number
-    then clear (count counts Tag.Meter) (first-failing test counts numbers Tag.Meter) number
+    each many-tables (λ place. clear (count counts (tag-at place)) (first-failing test counts numbers (tag-at place)) number)
 
 -- number by number over all tables
 unfoldable pub rows-check : Counts → (ℕ → ℕ) → Check

@@ -1,8 +1,10 @@
 // The tests of a day, number by number over all tables.
 use dayformat::Counts;
 use dayformat::Day;
-use dayformat::Tag;
+use dayformat::TABLES;
+use dayformat::count_of;
 use dayformat::numbers_of;
+use dayformat::tag_at;
 use dayrows::Test;
 use dayrows::first_failing_row;
 use units::Check;
@@ -51,13 +53,13 @@ fn examine_singles(day: Day) -> Check
 fn examine_tables(test: Test, number: u8, counts: Counts, numbers: &[usize]) -> Check
     ensures { λ r. ⌜ r ≡ tables-check test number counts (col (now (numbers .entry))) ⌝ }
 {
-    let shipper = first_failing_row(test, counts, numbers, Tag::Shipper);
-    let point = first_failing_row(test, counts, numbers, Tag::Point);
-    let entry = first_failing_row(test, counts, numbers, Tag::Entry);
-    let meter = first_failing_row(test, counts, numbers, Tag::Meter);
-    Check::Accepted
-        .clear(counts.shippers as usize, shipper as usize, number)
-        .clear(counts.points as usize, point as usize, number)
-        .clear(counts.entries as usize, entry as usize, number)
-        .clear(counts.meters as usize, meter as usize, number)
+    let mut found = Check::Accepted;
+    let mut place = 0;
+    while place < TABLES {
+        let tag = tag_at(place);
+        let row = first_failing_row(test, counts, numbers, tag);
+        found = found.clear(count_of(counts, tag) as usize, row as usize, number);
+        place += 1;
+    }
+    found
 }

@@ -5,19 +5,21 @@ use dayformat::Day;
 use dayformat::HEAD_FIELD;
 use dayformat::HEADER;
 use dayformat::LENGTH_WIDTH;
+use dayformat::TABLES;
 use dayformat::Tag;
 use dayformat::column_at;
 use dayformat::count_of;
 use dayformat::form_of;
 use dayformat::row_place;
+use dayformat::tag_at;
 use dayrows::number_of;
 ghost use mathlib.Core.Path.{_≡_};
-ghost use Prim.Native.Nat.{_+_, _*_, _^_, _<_};
+ghost use Prim.Native.Nat.{_+_, _^_, _<_};
 ghost use lib.Seq.{sets};
-ghost use Rattle.columns.specs.Column.{col};
+ghost use Rattle.columns.specs.Column.{col, joined};
 ghost use Rattle.bigendian.specs.Row.{encode};
-ghost use Rattle.dayformat.specs.Format.{widths, field-size, field};
-ghost use Rattle.dayformat.specs.Layout.{count};
+ghost use Rattle.dayformat.specs.Format.{widths, field-size, field, many-tables, tag-at};
+ghost use Rattle.dayformat.specs.Layout.{run-size};
 ghost use Rattle.dayformat.specs.DayBytes.{row-from, fields, file-of};
 
 // The body of the row that begins at a place of the numbers, from a byte of the block on.
@@ -53,9 +55,9 @@ fn put_field(tag: Tag, numbers: &[usize], from: usize, block: &mut [u8], at: usi
 fn put_fields(tag: Tag, counts: Counts, numbers: &[usize], block: &mut [u8], at: usize) -> usize
     requires { ⌜ at < 2 ^ 46 ⌝ }
     ensures { λ r. ⌜ (now (block .exit) ≡ sets (now (block .entry)) at (fields counts (col (now (numbers .entry))) tag))
-        × (r ≡ at + count counts tag * field-size tag) ⌝ }
+        × (r ≡ at + run-size counts tag) × (r < at + 2 ^ 41) ⌝ }
 {
-    let size = 3 + form_of(tag).size;
+    let size = HEADER + form_of(tag).size;
     let rows = count_of(counts, tag);
     let mut row = 0;
     let mut byte = at;
@@ -67,20 +69,29 @@ fn put_fields(tag: Tag, counts: Counts, numbers: &[usize], block: &mut [u8], at:
     byte
 }
 
+// The fields of the tables, behind the head's.
+fn put_tables(counts: Counts, numbers: &[usize], block: &mut [u8])
+    ensures { λ _. ⌜ now (block .exit) ≡ sets (now (block .entry)) (field-size Tag.Head)
+        (joined many-tables (λ place. fields counts (col (now (numbers .entry))) (tag-at place))) ⌝ }
+{
+    let mut at = HEAD_FIELD;
+    let mut place = 0;
+    while place < TABLES {
+        at = put_fields(tag_at(place), counts, numbers, block, at);
+        place += 1;
+    }
+}
+
 // The whole file.
 pub fn put_day(day: Day, numbers: &[usize], block: &mut [u8])
     ensures { λ _. ⌜ now (block .exit) ≡ sets (now (block .entry)) 0 (file-of day (col (now (numbers .entry)))) ⌝ }
 {
     let head = day.head;
-    let counts = day.counts;
     let row = [
         head.day as usize,
         head.free_flow.0 as usize,
         head.compressor.0 as usize,
     ];
     put_field(Tag::Head, &row, 0, block, 0);
-    let points = put_fields(Tag::Shipper, counts, numbers, block, HEAD_FIELD);
-    let entries = put_fields(Tag::Point, counts, numbers, block, points);
-    let meters = put_fields(Tag::Entry, counts, numbers, block, entries);
-    put_fields(Tag::Meter, counts, numbers, block, meters);
+    put_tables(day.counts, numbers, block);
 }

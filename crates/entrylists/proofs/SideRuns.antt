@@ -9,6 +9,7 @@ use borrow.Author.Tests.{ltb-true, le-leb, lt-ltb, eq-eqb}
 use lib.Dec.{ltb, eqb}
 use lib.ListN.{length}
 use Rattle.columns.specs.Column.{col, joined}
+use Rattle.columns.specs.Sum.{sum}
 use Rattle.columns.proofs.Firsts.{first-same, first-none}
 use Rattle.columns.proofs.Lists.{length-listed, col-listed}
 use Rattle.columns.proofs.Joined.{length-joined, col-joined}
@@ -23,7 +24,7 @@ use Rattle.dayformat.proofs.Sizes.{length-row-field}
 use Rattle.dayrows.specs.declared.Source.the-variants.{Side}
 use Rattle.dayrows.specs.declared.Test.{Test}
 use Rattle.dayrows.specs.declared.Test.the-variants as Test
-use Rattle.dayrows.specs.Test.{in-bounds, bounded, difference, rises, starved, passes, fault}
+use Rattle.dayrows.specs.Test.{in-bounds, bounded, difference, rises, some-idle, passes, fault}
 use Rattle.dayrows.specs.Private.{Sound}
 use Rattle.dayrows.proofs.Faults.{none-fault}
 use Rattle.dayrows.proofs.Within.{both}
@@ -88,9 +89,9 @@ module _ (day : Day) (numbers : List ℕ) (S : Sound day numbers) (from many sid
         is = sym (append-nil list);
         here = refl;
         each = λ i. length-listed _ _;
-        fits = λ i l. row-fits day numbers S Entry tt (from + i) (omega (arith, l, inside));
+        fits = λ i l. row-fits day numbers S Entry refl (from + i) (omega (arith, l, inside));
         few = omega (arith, inside, S .few Entry);
-        above = tt;
+        apart = tt;
       }
 
   -- an entry's numbers are read back
@@ -109,6 +110,7 @@ module _ (day : Day) (numbers : List ℕ) (S : Sound day numbers) (from many sid
   module _ (sided : (i : ℕ) → i < many → number i 0 ≡ side) where
     -- a row's numbers among those of so many rows
     stands : (n i place : ℕ) → i < n → place < 4 → col (joined n row) (row-start no-rows Entry i + place) ≡ number i place
+    unfolding sum
     stands n i place l k =
         ap (λ at. col (joined n row) (at + place)) (zero-add (i * 4))
         ∙ col-joined row 4 (λ i. length-listed _ _) n i place l k
@@ -127,10 +129,10 @@ module _ (day : Day) (numbers : List ℕ) (S : Sound day numbers) (from many sid
         (λ place k. stands (suc (suc i)) i place (omega arith) (omega (arith, k)))
         (λ place k. stands (suc (suc i)) (suc i) place (omega arith) (omega (arith, k))
         ∙ ap (λ row. number-at (day .counts) (col numbers) Entry row place) at)
-        (both _ _ (S .passes Entry tt Test.Key (suc (from + i)) (omega (arith, l, inside))) .0)
+        (both _ _ (S .passes Entry refl Test.Key (suc (from + i)) (omega (arith, l, inside))) .0)
 
     passed : (i : ℕ) → i < many → (test : Test) → passes test (Side side) no-rows (read i) Entry i ≡ true
-    unfolding passes starved
+    unfolding passes some-idle
     passed i l Test.Bounds =
         rw (
           lt-ltb i 512 (omega (arith, l, inside, S .few Entry)),

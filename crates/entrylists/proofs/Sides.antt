@@ -52,7 +52,7 @@ module _ (day : Day) (numbers : List ℕ) (S : Sound day numbers) where
 
   pub entry-bounded : (row : ℕ) → row < many → (place : ℕ) → place < 4
       → in-bounds (column-in (body Entry) place) (number-at (day .counts) (col numbers) Entry row place) ≡ true
-  entry-bounded row l = passes-bounded File (day .counts) (col numbers) Entry row (S .passes Entry tt Test.Bounds row l) .1
+  entry-bounded row l = passes-bounded File (day .counts) (col numbers) Entry row (S .passes Entry refl Test.Bounds row l) .1
 
   pub side-small : (row : ℕ) → row < many → side row ≤ 1
   unfolding column-in
@@ -62,7 +62,7 @@ module _ (day : Day) (numbers : List ℕ) (S : Sound day numbers) where
   unfolding passes rises
   next-side row l =
       first-kept (col numbers) 3 (row-start (day .counts) Entry row) (row-start (day .counts) Entry (suc row))
-      (both _ _ (S .passes Entry tt Test.Key (suc row) l) .0)
+      (both _ _ (S .passes Entry refl Test.Key (suc row) l) .0)
 
   sides-ordered : (i j : ℕ) → i ≤ j → j < many → side i ≤ side j
   sides-ordered i zero h l = let same : i ≡ 0 = omega (arith, h) in le-of-eq (ap side same)

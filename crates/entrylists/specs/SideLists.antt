@@ -8,10 +8,10 @@ use lib.ListN.{length, take, drop}
 use Rattle.columns.specs.Column.{col}
 use Rattle.columns.specs.First.{first}
 use Rattle.units.specs.declared.refusal.Check.the-variants.{Accepted}
-use Rattle.dayformat.specs.declared.form.Tag.the-variants.{Head, Shipper, Point, Entry}
+use Rattle.dayformat.specs.declared.form.Tag.the-variants.{Entry}
 use Rattle.dayformat.specs.declared.layout.Counts.{Counts}
 use Rattle.dayformat.specs.Format.{header, field-size}
-use Rattle.dayformat.specs.Layout.{count, run-size}
+use Rattle.dayformat.specs.Layout.{count, run-size, fields-start}
 use Rattle.pointentries.specs.Entries.{asked, entries-check, part-start, part-long}
 use Rattle.entrylists.specs.PointRows.{is-entry, first-row, many-rows, point-fields}
 
@@ -29,7 +29,7 @@ delivery-list list = drop (first-delivery list) list
 
 -- a file's tag 4 bytes, behind the fields of the tags before
 abbrev pub entries-start : Counts → ℕ
-entries-start counts = run-size counts Head + run-size counts Shipper + run-size counts Point
+entries-start counts = fields-start counts Entry
 
 abbrev pub entry-bytes : Counts → List ℕ → List ℕ
 entry-bytes counts file = take (run-size counts Entry) (drop (entries-start counts) file)

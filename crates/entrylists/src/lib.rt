@@ -2,35 +2,25 @@
 use dayformat::Counts;
 use dayformat::ENTRY_FIELD;
 use dayformat::HEADER;
-use dayformat::file_size;
+use dayformat::Tag;
+use dayformat::fields_place;
 ghost use mathlib.Core.Path.{_≡_};
 ghost use Prim.Native.Nat.{_+_};
 ghost use Rattle.dayformat.specs.declared.form.Tag.the-variants.{Entry};
 ghost use Rattle.dayformat.specs.Layout.{run-size};
 ghost use Rattle.entrylists.specs.SideLists.{entries-start, first-delivery};
 
-// The byte at which a file's entries begin: so long is the file of a day without them.
+// The byte at which a file's entries begin, and the byte at which they end.
 pub fn entries_start(counts: Counts) -> usize
     ensures { λ r. ⌜ r ≡ entries-start counts ⌝ }
 {
-    file_size(Counts {
-        shippers: counts.shippers,
-        points: counts.points,
-        entries: 0,
-        meters: 0,
-    })
+    fields_place(counts, Tag::Entry)
 }
 
-// The byte at which they end.
 pub fn entries_end(counts: Counts) -> usize
     ensures { λ r. ⌜ r ≡ entries-start counts + run-size counts Entry ⌝ }
 {
-    file_size(Counts {
-        shippers: counts.shippers,
-        points: counts.points,
-        entries: counts.entries,
-        meters: 0,
-    })
+    fields_place(counts, Tag::Entry) + counts.entries as usize * ENTRY_FIELD
 }
 
 // The byte at which the first entry of side 1 begins in a run of entries, or the end of the last whole entry. The side stands behind

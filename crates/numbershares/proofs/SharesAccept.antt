@@ -22,7 +22,7 @@ use Rattle.dayformat.specs.Format.{body, column-in}
 use Rattle.dayformat.specs.Layout.{count}
 use Rattle.dayrows.specs.declared.Source.the-variants.{File}
 use Rattle.dayrows.specs.declared.Test.the-variants as Test
-use Rattle.dayrows.specs.Test.{starved, passes}
+use Rattle.dayrows.specs.Test.{some-idle, passes}
 use Rattle.dayrows.specs.Private.{Sound}
 use Rattle.dayrows.proofs.Within.{passes-bounded}
 use Rattle.dayvalues.specs.Column.{column, column-check}
@@ -33,7 +33,7 @@ use Rattle.numbershares.specs.Answer.{numbers-check}
 use Rattle.numbershares.proofs.Tables.{table-long}
 
 -- one of two that are not
-neither : (a b : Bool) → not (cond a true b) ≡ true → (a ≡ false) × (b ≡ false)
+neither : (a b : Bool) → not (cond a true (cond b true false)) ≡ true → (a ≡ false) × (b ≡ false)
 neither true b e = absurd (true≢false (sym e))
 neither false true e = absurd (true≢false (sym e))
 neither false false e = (refl, refl)
@@ -51,7 +51,7 @@ module _ (day : Day) (numbers : List ℕ) (S : Sound day numbers) where
   -- ---- 3: a column of gigajoules is within its bound
   bounded : (place : ℕ) → 0 < place → place < 6 → (row : ℕ) → row < many → figure place row ≤ most-gigajoules
   unfolding column-in
-  bounded place some few row l = omega (arith, sound-number day numbers S Shipper tt row l place few, kind-is)
+  bounded place some few row l = omega (arith, sound-number day numbers S Shipper refl row l place few, kind-is)
     where
       kind-is : column-in (body Shipper) place .high ≡ most-gigajoules
       kind-is = rw (le-ltb place 1 some, lt-ltb (place - 1) 5 (omega (arith, some, few)))
@@ -65,8 +65,8 @@ module _ (day : Day) (numbers : List ℕ) (S : Sound day numbers) where
 
   -- ---- 4: no schedule without its MDQ
   fed : (row : ℕ) → row < many → (idle (figure 1 row) (figure 3 row) ≡ false) × (idle (figure 2 row) (figure 4 row) ≡ false)
-  unfolding passes starved
-  fed row l = neither _ _ (S .passes Shipper tt Test.Mdq row l)
+  unfolding passes some-idle
+  fed row l = neither _ _ (S .passes Shipper refl Test.Mdq row l)
 
   none-idle : (mdq schedule : ℕ) → ((row : ℕ) → row < many → idle (figure mdq row) (figure schedule row) ≡ false)
       → clear (rows T) (first-idle (listed many (figure mdq)) (listed many (figure schedule))) 4 ≡ Check.Accepted
@@ -135,5 +135,5 @@ module _ (day : Day) (numbers : List ℕ) (S : Sound day numbers) where
       (first-none (λ row. beyond (day .counts) (col numbers) Shipper row place) many
       (λ row k.
       ap not
-      (passes-bounded File (day .counts) (col numbers) Shipper row (S .passes Shipper tt Test.Bounds row k) .1 place few)))))))
+      (passes-bounded File (day .counts) (col numbers) Shipper row (S .passes Shipper refl Test.Bounds row k) .1 place few)))))))
       (accepts-kept 7 (le-leb many room (omega (arith, S .few Shipper, l))))

@@ -9,6 +9,7 @@ use native.Mathlib.Omega.{arith}
 use borrow.Author.Tests.{ltb-true, eqb-true, not-false}
 use lib.Dec.{ltb, eqb}
 use Rattle.columns.specs.Column.{col}
+use Rattle.columns.specs.Sum.{sum}
 use Rattle.columns.proofs.Firsts.{first-before}
 use Rattle.columns.proofs.Joined.{col-joined}
 use Rattle.dayformat.specs.declared.form.Tag.the-variants as Tag
@@ -57,6 +58,7 @@ module _ (list : List ℕ) (side : ℕ) where
   -- a row's numbers among those of so many rows
   number-at : (many row place : ℕ) → row < many → place < 4
       → read many (row-start no-rows Tag.Entry row + place) ≡ col (row-of F row) place
+  unfolding sum
   number-at many row place l k =
       ap (λ at. read many (at + place)) (zero-add (row * 4)) ∙ col-joined (row-of F) 4 (length-row F) many row place l k
 

@@ -6,6 +6,7 @@ use native.Mathlib.Omega.{arith}
 use lib.Dec.{leb, ltb}
 use lib.ListN.{length, replicate, length-replicate}
 use Rattle.columns.specs.Column.{col}
+use Rattle.columns.specs.Sum.{sum}
 use Rattle.columns.proofs.Firsts.{first-le, first-before}
 use Rattle.units.specs.declared.refusal.Check.{Check}
 use Rattle.units.specs.declared.refusal.Check.the-variants as Check
@@ -42,6 +43,7 @@ module _ (list : List ℕ) (side : ℕ) where
   -- ---- among zeros the rows are tested as if they stood by themselves
   module _ {lent : List ℕ} (empty : lent ≡ replicate most-entry-numbers 0) where
     among-zeros : (many : ℕ) → many ≤ 512 → col (laid F lent many) ≡ read many
+    unfolding sum
     among-zeros =
         run-front F [] lent (ap col empty ∙ front-none most-entry-numbers) refl
         (omega (arith, ap length empty, length-replicate {A = ℕ} most-entry-numbers 0))

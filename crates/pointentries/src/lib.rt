@@ -1,8 +1,8 @@
 // The entries of a point: a part of the receipt list or of the delivery list, opened.
-use dayformat::Counts;
 use dayformat::ENTRY_COLUMNS;
 use dayformat::ENTRY_FIELD;
 use dayformat::MOST_ENTRIES;
+use dayformat::NO_ROWS;
 use dayformat::Tag;
 use dayrows::Source;
 use dayrows::number_of;
@@ -27,17 +27,11 @@ fn walk_entries(list: &[u8], side: usize, numbers: &mut [usize]) -> Walk
     requires { ⌜ now numbers ≡ replicate most-entry-numbers 0 ⌝ }
     ensures { λ r. ⌜ EntriesWalked (now (list .entry)) side (now (numbers .exit)) r ⌝ }
 {
-    let counts = Counts {
-        shippers: 0,
-        points: 0,
-        entries: 0,
-        meters: 0,
-    };
-    let run = run_fields(Source::Side(side), counts, list, Tag::Entry, 0, numbers);
+    let run = run_fields(Source::Side(side), NO_ROWS, list, Tag::Entry, 0, numbers);
     let walk = Walk {
         fault: run.fault,
         place: run.place,
-        counts: counts.with(Tag::Entry, run.rows),
+        counts: NO_ROWS.with(Tag::Entry, run.rows),
     };
     walk.end(list)
 }

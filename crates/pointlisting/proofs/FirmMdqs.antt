@@ -17,7 +17,7 @@ use Rattle.dayformat.specs.Format.{body, column-in}
 use Rattle.dayformat.specs.Layout.{count, row-start}
 use Rattle.dayrows.specs.declared.Source.the-variants.{File}
 use Rattle.dayrows.specs.declared.Test.the-variants as Test
-use Rattle.dayrows.specs.Test.{difference, rises, lists, named, passes}
+use Rattle.dayrows.specs.Test.{difference, rises, lists, all-listed, named, passes}
 use Rattle.dayrows.specs.Private.{Sound}
 use Rattle.dayrows.proofs.Within.{both, passes-bounded, within-bounds}
 use Rattle.dayvalues.specs.Row.{number-at}
@@ -40,12 +40,14 @@ module _ (day : Day) (numbers : List ℕ) (S : Sound day numbers) where
 
   shipper-named : (row : ℕ) → row < count (day .counts) Entry
       → lists (day .counts) (col numbers) Shipper (row-start (day .counts) Entry row + 2) ≡ true
-  unfolding passes named
+  unfolding passes all-listed
   shipper-named row l =
       let at = row-start (day .counts) Entry row in
       let kept = both (rises (day .counts) (col numbers) Entry row) (named (day .counts) (col numbers) Entry at)
-      (S .passes Entry tt Test.Key row l) in
-      both (lists (day .counts) (col numbers) Point at) (lists (day .counts) (col numbers) Shipper (at + 2)) (kept .1) .1
+      (S .passes Entry refl Test.Key row l) in
+      let point = both (lists (day .counts) (col numbers) Point (at + 0)) (cond (lists (day .counts) (col numbers) Shipper (at + 2)) true false)
+      (kept .1) in
+      both (lists (day .counts) (col numbers) Shipper (at + 2)) true (point .1) .0
 
   shipper-listed : (row : ℕ) → row < count (day .counts) Entry
       → shipper-row (day .counts) (col numbers) (shipper row) < count (day .counts) Shipper
@@ -65,5 +67,5 @@ module _ (day : Day) (numbers : List ℕ) (S : Sound day numbers) where
   firm-bounded row l =
       let listed = shipper-row (day .counts) (col numbers) (shipper row) in
       within-bounds (column-in (body Shipper) 1) (number-at (day .counts) (col numbers) Shipper listed 1)
-      (passes-bounded File (day .counts) (col numbers) Shipper listed (S .passes Shipper tt Test.Bounds listed (shipper-listed row l))
+      (passes-bounded File (day .counts) (col numbers) Shipper listed (S .passes Shipper refl Test.Bounds listed (shipper-listed row l))
       .1 1 (omega arith)) .1

@@ -39,7 +39,7 @@ module _ (day : Day) (numbers : List ℕ) (sound : Sound day numbers) (row : ℕ
 
   bounded : (place : ℕ) → place < 3 → in-bounds (column-in (body Point) place) (figure place) ≡ true
   bounded =
-      passes-bounded File (day .counts) (col numbers) Point row (sound .passes Point tt Test.Bounds row l) .1
+      passes-bounded File (day .counts) (col numbers) Point row (sound .passes Point refl Test.Bounds row l) .1
 
   pub side-small : figure 0 ≤ 1
   unfolding column-in

@@ -1,5 +1,5 @@
 -- Room for every listing of points: at most 32 points, each with its line and those of its hour.
-use mathlib.Core.Path.{_≡_}
+use mathlib.Core.Path.{_≡_, refl}
 use mathlib.Core.Bool.{Bool, not}
 use mathlib.Core.List.{List}
 use Prim.Native.Nat.{ℕ, _-_, _+_, _≤_, _<_}
@@ -48,7 +48,7 @@ module _ (day : Day) (numbers : List ℕ) (S : Sound day numbers) where
       let from = first-row (day .counts) (col numbers) side point in
       let other : ℕ → Bool = λ more. not (is-entry (day .counts) (col numbers) side point (from + more)) in
       let inside = first-le other (count (day .counts) Entry - from) in
-      sound-number day numbers S Entry tt (from + entry) (omega (arith, l, inside)) 2 (omega arith)
+      sound-number day numbers S Entry refl (from + entry) (omega (arith, l, inside)) 2 (omega arith)
 
   entries-most : (side point capacity : ℕ) → length (entry-lines (day .counts) (col numbers) side point capacity) ≤ 1_088
   entries-most side point capacity = hour-most capacity _ _ _ _ (entry-shipper side point)
@@ -59,7 +59,7 @@ module _ (day : Day) (numbers : List ℕ) (S : Sound day numbers) where
       let side = number-at (day .counts) (col numbers) Point row 0 in
       let point = number-at (day .counts) (col numbers) Point row 1 in
       let capacity = number-at (day .counts) (col numbers) Point row 2 in
-      let within = sound-number day numbers S Point tt row l in
+      let within = sound-number day numbers S Point refl row l in
       omega (
         arith,
         length-append (point-line side point capacity) (entry-lines (day .counts) (col numbers) side point capacity),

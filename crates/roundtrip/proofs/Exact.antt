@@ -4,18 +4,22 @@ use mathlib.Core.List.{List, [], _∷_, _++_}
 use Prim.Native.Nat.{ℕ, zero, suc, _+_, _-_, _<_}
 use native.Mathlib.Decide.{decLt}
 use native.Mathlib.Omega.{arith}
+use borrow.Author.Tests.{ltb-true}
+use lib.Dec.{ltb}
 use lib.ListN.{length, List·getD-append}
 use lib.Seq.{getD-append-add}
 use Rattle.columns.specs.Column.{col, joined}
+use Rattle.columns.specs.First.{first-from}
 use Rattle.bigendian.specs.Number.{bytes, AreBytes}
 use Rattle.bigendian.specs.Row.{encode}
 use Rattle.bigendian.proofs.Numbers.{bytes-are}
 use Rattle.dayformat.specs.declared.day.Day.{Day}
 use Rattle.dayformat.specs.declared.form.Tag.{Tag}
-use Rattle.dayformat.specs.declared.form.Tag.the-variants.{Head, Shipper, Point, Entry, Meter}
-use Rattle.dayformat.specs.Format.{widths, form, field}
+use Rattle.dayformat.specs.declared.form.Tag.the-variants.{Head}
+use Rattle.dayformat.specs.Format.{many-tables, tag-at, widths, form, field}
 use Rattle.dayformat.specs.Layout.{count, row-start}
 use Rattle.dayformat.specs.DayBytes.{row-from, head-row, fields, file-of}
+use Rattle.dayformat.proofs.Every.{passes-every}
 use Rattle.roundtrip.specs.RoundTrip.{Exactly}
 use Rattle.roundtrip.proofs.RoundTrips.{round-trips}
 
@@ -47,11 +51,8 @@ joined-are zero f each = none-are
 joined-are (suc n) f each = append-are (joined n f) (f n) (joined-are n f each) (each n)
 
 tag-is : (tag : Tag) → form tag .byte < 256
-tag-is Head = omega arith
-tag-is Shipper = omega arith
-tag-is Point = omega arith
-tag-is Entry = omega arith
-tag-is Meter = omega arith
+unfolding first-from
+tag-is tag = ltb-true _ _ (passes-every (λ tag. ltb (form tag .byte) 256) refl (omega arith) tag)
 
 field-are : (tag : Tag) (row : List ℕ) → AreBytes (field tag row)
 field-are tag row =
@@ -61,10 +62,9 @@ field-are tag row =
 pub file-are : (day : Day) (numbers : ℕ → ℕ) → AreBytes (file-of day numbers)
 unfolding file-of
 file-are day numbers =
-    let head = field Head (head-row (day .head)) in
-    with-part (head ++ part Shipper ++ part Point ++ part Entry) Meter
-    (with-part (head ++ part Shipper ++ part Point) Entry
-    (with-part (head ++ part Shipper) Point (with-part head Shipper (field-are Head (head-row (day .head))))))
+    append-are (field Head (head-row (day .head))) (joined many-tables (λ place. part (tag-at place)))
+    (field-are Head (head-row (day .head)))
+    (joined-are many-tables (λ place. part (tag-at place)) (λ place. part-are (tag-at place)))
   where
     part : Tag → List ℕ
     part tag = fields (day .counts) numbers tag
@@ -73,9 +73,6 @@ file-are day numbers =
     part-are tag =
         joined-are (count (day .counts) tag) (λ row. field tag (row-from numbers tag (row-start (day .counts) tag row)))
         (λ row. field-are tag (row-from numbers tag (row-start (day .counts) tag row)))
-
-    with-part : (ahead : List ℕ) (tag : Tag) → AreBytes ahead → AreBytes (ahead ++ part tag)
-    with-part ahead tag are = append-are ahead (part tag) are (part-are tag)
 
 pub exactly : Exactly
 exactly day numbers u32 = (

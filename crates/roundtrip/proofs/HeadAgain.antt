@@ -9,6 +9,7 @@ use borrow.Author.Tests.{le-leb, eq-eqb}
 use lib.Dec.{eqb}
 use lib.ListN.{length, drop}
 use Rattle.columns.specs.Column.{col, listed, joined}
+use Rattle.columns.specs.Sum.{sum}
 use Rattle.columns.proofs.Firsts.{first-none}
 use Rattle.columns.proofs.Lists.{length-listed}
 use Rattle.units.specs.Bound.{most-gigajoules}
@@ -21,7 +22,7 @@ use Rattle.dayformat.specs.DayBytes.{head-row}
 use Rattle.dayrows.specs.declared.Source.the-variants.{File}
 use Rattle.dayrows.specs.declared.Test.{Test}
 use Rattle.dayrows.specs.declared.Test.the-variants.{Bounds, Key, Mdq}
-use Rattle.dayrows.specs.Test.{in-bounds, bounded, rises, named, starved, passes, fault}
+use Rattle.dayrows.specs.Test.{in-bounds, bounded, rises, all-listed, some-idle, passes, fault}
 use Rattle.dayrows.specs.Whole.{broken}
 use Rattle.dayrows.proofs.Faults.{none-fault}
 use Rattle.dayrows.proofs.Breaking.{whole-none}
@@ -77,7 +78,7 @@ module _ (head : Head) (B : Bounded head) where
     rows-back = ap (λ at. decode (widths Tag.Head) (drop (at + 3) file)) first ∙ row-back
 
     head-passes : (test : Test) → passes test File no-rows (col (head-row head)) Tag.Head 0 ≡ true
-    unfolding passes bounded rises named starved
+    unfolding passes bounded rises all-listed some-idle sum
     head-passes Bounds =
         rw (le-leb 3 _
         (le-of-eq

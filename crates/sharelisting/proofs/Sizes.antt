@@ -1,5 +1,5 @@
 -- Room for every listing of shares: each figure has as many digits as its bound at most, and there are at most 64 shippers.
-use mathlib.Core.Path.{_≡_}
+use mathlib.Core.Path.{_≡_, refl}
 use mathlib.Core.List.{List}
 use Prim.Native.Nat.{ℕ, _≤_, _<_}
 use native.Mathlib.Nat.{le-refl, le-trans}
@@ -65,7 +65,7 @@ module _ (day : Day) (numbers : List ℕ) (S : Sound day numbers) where
 
   shipper-small : (row : ℕ) → row < count (day .counts) Shipper → shipper-of (day .counts) (col numbers) row ≤ 65_535
   unfolding column-in
-  shipper-small row l = sound-number day numbers S Shipper tt row l 0 (omega arith)
+  shipper-small row l = sound-number day numbers S Shipper refl row l 0 (omega arith)
 
   abbrev row-line : ℕ → List ℕ
   row-line row =

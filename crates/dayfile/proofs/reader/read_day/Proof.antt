@@ -1,4 +1,5 @@
 -- The file is walked through as the definition has it, and its numbers are copied where nothing is found.
+use Rattle.columns.specs.Sum.{sum}
 use Rattle.dayfile.proofs.Answers.{Tested, refuses, accepted-fits, accepted-there, reads}
 use borrow.Author.Needs.{needs}
 use Rattle.dayfile.proofs.reader.read_day.Statement.{statement}
@@ -29,6 +30,7 @@ slice-aggregate-walk-file : tie.Need-slice-aggregate-walk-file
 slice-aggregate-walk-file c = search needs
 
 walk-file-requires : tie.Need-walk-file-requires
+unfolding sum
 walk-file-requires c κs = search needs
 
 numbers-of-requires : tie.Need-numbers-of-requires

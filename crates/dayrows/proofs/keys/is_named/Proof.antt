@@ -1,78 +1,115 @@
--- The tag says what the row names.
+-- The names from `next` on are all listed exactly where all are.
+use mathlib.Core.Path.{_≡_, ap, sym, _∙_}
+use Prim.Native.Nat.{_-_, _≤_}
+use native.Mathlib.Omega.{arith}
+use lib.ListN.{length, getD, drop, drop-of-length-le}
+use borrow.Author.Tests.{not-true, not-false}
+use Rattle.columns.specs.Column.{col}
+use Rattle.dayformat.specs.declared.form.Tag.the-variants.{Head}
+use Rattle.dayformat.specs.Format.{_is-a_, names}
+use Rattle.dayformat.proofs.Filled.{length-filled}
+use Rattle.dayrows.specs.Test.{all-listed, named}
+use Rattle.dayrows.proofs.Naming.{listed-filled, unlisted, listed-next, names-near}
 use borrow.Author.Needs.{needs}
-use Rattle.dayrows.specs.Test.{named}
 use Rattle.dayrows.proofs.keys.is_named.Statement.{statement}
 use Rattle.dayrows.proofs.keys.is_named.Tie as tie
 
-enum-told : tie.Need-enum-told
-enum-told c = search needs
+abbrev Inv-loop : tie.InvT-loop
+Inv-loop counts numbers at names next₀ next =
+    (all-listed counts (col numbers) at (drop next names) ≡ all-listed counts (col numbers) at names) × (next ≤ 2)
 
-enum-told-2 : tie.Need-enum-told-2
-enum-told-2 c = search needs
+abbrev μ-loop : tie.MeasureT-loop
+μ-loop counts numbers at names next₀ next = 2 - next
 
-enum-told-3 : tie.Need-enum-told-3
-enum-told-3 c = search needs
+abbrev start-of : tie.After-names-of Inv-loop μ-loop → tie.Start Inv-loop μ-loop
+start-of c = c .before .before
 
-enum-told-4 : tie.Need-enum-told-4
-enum-told-4 c = search needs
+-- the array has as many names, near the row's begin, and all are listed where the row's are
+long : (c : tie.After-names-of Inv-loop μ-loop) → length (c .names-of .result) ≡ 2
+long c = ap length (c .names-of .ensures) ∙ length-filled 2 (0 is-a Head) (names (start-of c .args .tag))
 
-lists-requires : tie.Need-lists-requires
-lists-requires c κs = search needs
+near : (c : tie.In-loop Inv-loop μ-loop) → getD (c .before .before .names-of .result) (c .before .loop .next) (0 is-a Head) .place ≤ 68
+near c = rw (c .before .before .names-of .ensures) (names-near (start-of (c .before .before) .args .tag) _ _ (c .loop-test .taken))
 
-add-lists : tie.Need-add-lists
-add-lists c = search needs
+is : (c : tie.After-names-of Inv-loop μ-loop)
+    → let args = start-of c .args in
+    all-listed (args .counts) (col (args .numbers .now)) (args .at) (c .names-of .result)
+    ≡ named (args .counts) (col (args .numbers .now)) (args .tag) (args .at)
+is c = ap (all-listed _ _ _) (c .names-of .ensures) ∙ listed-filled _ _ _ (start-of c .args .tag)
 
-lists-requires-2 : tie.Need-lists-requires-2
-lists-requires-2 c κs = search needs
+names-of-requires : tie.Need-names-of-requires Inv-loop μ-loop
+names-of-requires c κs = search needs
 
-returns : tie.Need-returns
-unfolding named
+loop-holds : tie.Need-loop-holds Inv-loop μ-loop
+loop-holds c = search needs
+
+mul-name : tie.Need-mul-name Inv-loop μ-loop
+mul-name c = search needs
+
+array-copy-out-name : tie.Need-array-copy-out-name Inv-loop μ-loop
+array-copy-out-name c = search needs
+
+add-lists : tie.Need-add-lists Inv-loop μ-loop
+add-lists c =
+    let turn = c .before .before in
+    omega (arith, near turn, start-of (turn .before .before) .pre)
+
+lists-requires : tie.Need-lists-requires Inv-loop μ-loop
+lists-requires c κs =
+    let turn = c .before .before in
+    omega (arith, near turn, start-of (turn .before .before) .pre)
+
+returns : tie.Need-returns Inv-loop μ-loop
 returns c =
-    let point = c .before .before in
-    rw (point .before .enum-told4 .given .1) (rw (← point .lists .ensures, c .before .if1 .taken) (c .lists2 .ensures))
+    let asked = c .before in
+    let turn = asked .before .before .before in
+    let now = turn .before in
+    sym
+    (sym (is (now .before))
+    ∙ sym (now .loop .inv .0)
+    ∙ unlisted _ _ _ (now .before .names-of .result) (now .loop .next) _ (omega (arith, turn .loop-test .taken, long (now .before)))
+    (sym (asked .lists .ensures) ∙ not-true (asked .lists .result) (c .if1 .taken)))
 
-enum-told-5 : tie.Need-enum-told-5
-enum-told-5 c = search needs
+add-next : tie.Need-add-next Inv-loop μ-loop
+add-next c = search needs
 
-lists-requires-3 : tie.Need-lists-requires-3
-lists-requires-3 c κs = search needs
+loop-less : tie.Need-loop-less Inv-loop μ-loop
+loop-less c = search needs
 
-returns-2 : tie.Need-returns-2
-unfolding named
-returns-2 c = rw (c .enum-told .given .1)
+loop-again : tie.Need-loop-again Inv-loop μ-loop
+loop-again c =
+    let asked = c .before in
+    let turn = asked .before .before .before in
+    let now = turn .before in (
+      sym
+          (listed-next _ _ _ (now .before .names-of .result) (now .loop .next) _ (omega (arith, turn .loop-test .taken, long (now .before)))
+          (sym (asked .lists .ensures) ∙ not-false (asked .lists .result) (c .if1 .left)))
+          ∙ now .loop .inv .0,
+      omega (arith, turn .loop-test .taken),
+    )
 
-returns-3 : tie.Need-returns-3
-unfolding named
-returns-3 c = rw (c .enum-told2 .given .1)
-
-returns-4 : tie.Need-returns-4
-unfolding named
-returns-4 c = rw (c .enum-told3 .given .1)
-
-returns-5 : tie.Need-returns-5
-unfolding named
-returns-5 c = rw (c .before .before .enum-told4 .given .1) (rw (← c .before .lists .ensures, c .if1 .left))
-
-returns-6 : tie.Need-returns-6
-unfolding named
-returns-6 c = rw (c .before .enum-told5 .given .1) (c .lists3 .ensures)
+returns-2 : tie.Need-returns-2 Inv-loop μ-loop
+unfolding all-listed
+returns-2 c =
+    let now = c .before in
+    let names = now .before .names-of .result in
+    let past = drop-of-length-le names {i = now .loop .next} (omega (arith, c .loop-test .left, long (now .before))) in
+    ap (all-listed _ _ _) (sym past) ∙ now .loop .inv .0 ∙ is (now .before)
 
 pub is-named-spec : {M : Type 1} → statement M
 is-named-spec =
     tie.close
     (tie.spec
-    enum-told
-    enum-told-2
-    enum-told-3
-    enum-told-4
-    lists-requires
+    Inv-loop
+    μ-loop
+    names-of-requires
+    loop-holds
+    mul-name
+    array-copy-out-name
     add-lists
-    lists-requires-2
+    lists-requires
     returns
-    enum-told-5
-    lists-requires-3
-    returns-2
-    returns-3
-    returns-4
-    returns-5
-    returns-6)
+    add-next
+    loop-less
+    loop-again
+    returns-2)

@@ -1,11 +1,23 @@
--- Each tag's own glance, where rows stand in a file; at a head none is cast.
-use mathlib.Core.Path.{refl}
+-- Where rows stand in a file, an entry is glanced at in its own way, and any other row by its names.
+use mathlib.Core.Path.{_≡_, ap, sym, _∙_}
 use borrow.Author.Tests.{not-false}
-use Rattle.dayrows.specs.Test.{named}
-use Rattle.dayruns.proofs.Glancing.{unseen, glanced}
+use Rattle.dayformat.specs.declared.form.Tag.the-variants.{Entry}
+use Rattle.dayformat.proofs.Every.{byte-tells}
+use Rattle.dayrows.specs.declared.Source.the-variants.{File}
+use Rattle.dayruns.proofs.Glancing.{unseen}
+use Rattle.dayruns.proofs.RowReading.{placed-as}
 use borrow.Author.Needs.{needs}
 use Rattle.dayruns.proofs.glance.glance_at.Statement.{statement}
 use Rattle.dayruns.proofs.glance.glance_at.Tie as tie
+
+abbrev start-of : tie.Else1 → tie.Start
+start-of c = c .before .before .before .before
+
+in-file : (c : tie.Else1) → start-of c .args .source ≡ File
+in-file c = let asked = c .before .is-file in asked .ensures (not-false (asked .result) (c .if1 .left))
+
+is-entry : (c : tie.Then2) → start-of (c .before .before .before) .args .tag ≡ Entry
+is-entry c = byte-tells _ _ (sym (ap (λ form. form .byte) (c .before .before .form-of .ensures)) ∙ c .if2 .taken)
 
 is-file-requires : tie.Need-is-file-requires
 is-file-requires c κs = search needs
@@ -13,83 +25,33 @@ is-file-requires c κs = search needs
 returns : tie.Need-returns
 returns c = unseen _ _ _ _ _ _ _
 
-enum-told : tie.Need-enum-told
-enum-told c = search needs
-
-enum-told-2 : tie.Need-enum-told-2
-enum-told-2 c = search needs
-
-read-shipper-requires : tie.Need-read-shipper-requires
-read-shipper-requires c κs = search needs
-
-enum-told-3 : tie.Need-enum-told-3
-enum-told-3 c = search needs
-
-read-point-requires : tie.Need-read-point-requires
-read-point-requires c κs = search needs
-
-enum-told-4 : tie.Need-enum-told-4
-enum-told-4 c = search needs
+form-of-requires : tie.Need-form-of-requires
+form-of-requires c κs = search needs
 
 glance-at-entry-requires : tie.Need-glance-at-entry-requires
-glance-at-entry-requires c κs = search needs
-
-enum-told-5 : tie.Need-enum-told-5
-enum-told-5 c = search needs
-
-glance-at-meter-requires : tie.Need-glance-at-meter-requires
-glance-at-meter-requires c κs = search needs
-
-returns-2 : tie.Need-returns-2
-returns-2 c = unseen _ _ _ _ _ _ _
+glance-at-entry-requires c κs =
+    let start = start-of (c .before .before .before .before) in
+    placed-as (start .args .counts) (start .args .row) (start .args .to) (is-entry (c .before)) (start .pre)
 
 same-length : tie.Need-same-length
 same-length c = search needs
 
-returns-3 : tie.Need-returns-3
-unfolding named
-returns-3 c =
-    let read = c .before .before in
-    let told = read .before .before in
-    let file = told .before .before in
-    rw (told .enum-told2 .given .1)
-    (glanced _ _ _ _ _ _ _ (read .read-shipper .ensures)
-    (λ yes. (yes, file .before .is-file .ensures (not-false (file .before .is-file .result) (file .if1 .left)), refl)))
+returns-2 : tie.Need-returns-2
+returns-2 c =
+    let seen = c .before .before in
+    let entry = seen .before .before in
+    rw (is-entry entry, in-file (entry .before .before .before)) (seen .glance-at-entry .ensures)
+
+glance-at-row-requires : tie.Need-glance-at-row-requires
+glance-at-row-requires c κs = search needs
 
 same-length-2 : tie.Need-same-length-2
 same-length-2 c = search needs
 
-returns-4 : tie.Need-returns-4
-unfolding named
-returns-4 c =
-    let read = c .before .before in
-    let told = read .before .before in
-    let file = told .before .before in
-    rw (told .enum-told3 .given .1)
-    (glanced _ _ _ _ _ _ _ (read .read-point .ensures)
-    (λ yes. (yes, file .before .is-file .ensures (not-false (file .before .is-file .result) (file .if1 .left)), refl)))
-
-same-length-3 : tie.Need-same-length-3
-same-length-3 c = search needs
-
-returns-5 : tie.Need-returns-5
-returns-5 c =
+returns-3 : tie.Need-returns-3
+returns-3 c =
     let seen = c .before .before in
-    let told = seen .before .before in
-    let file = told .before .before in
-    rw (told .enum-told4 .given .1, file .before .is-file .ensures (not-false (file .before .is-file .result) (file .if1 .left)))
-    (seen .glance-at-entry .ensures)
-
-same-length-4 : tie.Need-same-length-4
-same-length-4 c = search needs
-
-returns-6 : tie.Need-returns-6
-returns-6 c =
-    let seen = c .before .before in
-    let told = seen .before .before in
-    let file = told .before .before in
-    rw (told .enum-told5 .given .1, file .before .is-file .ensures (not-false (file .before .is-file .result) (file .if1 .left)))
-    (seen .glance-at-meter .ensures)
+    rw (in-file (seen .before .before .before .before .before)) (seen .glance-at-row .ensures)
 
 pub glance-at-spec : {M : Type 1} → statement M
 glance-at-spec =
@@ -97,21 +59,10 @@ glance-at-spec =
     (tie.spec
     is-file-requires
     returns
-    enum-told
-    enum-told-2
-    read-shipper-requires
-    enum-told-3
-    read-point-requires
-    enum-told-4
+    form-of-requires
     glance-at-entry-requires
-    enum-told-5
-    glance-at-meter-requires
-    returns-2
     same-length
-    returns-3
+    returns-2
+    glance-at-row-requires
     same-length-2
-    returns-4
-    same-length-3
-    returns-5
-    same-length-4
-    returns-6)
+    returns-3)

@@ -2,6 +2,7 @@
 use mathlib.Core.Path.{_≡_}
 use native.Mathlib.Omega.{arith}
 use Rattle.columns.specs.Column.{col}
+use Rattle.columns.specs.Sum.{sum}
 use Rattle.dayformat.specs.declared.form.Tag.the-variants.{Point}
 use Rattle.dayformat.specs.Layout.{table-start}
 use Rattle.dayrows.proofs.Enough.{listed-shipper, listed-point}
@@ -31,6 +32,7 @@ shared-slice-read-point-from-2 : tie.Need-shared-slice-read-point-from-2
 shared-slice-read-point-from-2 c = search needs
 
 point-from-requires : tie.Need-point-from-requires
+unfolding sum
 point-from-requires c κs = search needs
 
 first-shipper-requires : tie.Need-first-shipper-requires
@@ -49,6 +51,7 @@ shared-slice-read-shipper-from : tie.Need-shared-slice-read-shipper-from
 shared-slice-read-shipper-from c = search needs
 
 shipper-from-requires : tie.Need-shipper-from-requires
+unfolding sum
 shipper-from-requires c κs = search needs
 
 returns : tie.Need-returns

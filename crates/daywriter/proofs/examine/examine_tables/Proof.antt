@@ -1,93 +1,77 @@
--- The code is the chain of tests as it is defined.
-use borrow.Author.Needs.{needs}
+-- The tables are tested one after another.
+use Prim.Native.Nat.{_-_}
+use Rattle.columns.specs.Column.{col}
+use Rattle.units.specs.Refusals.{clear}
+use Rattle.units.proofs.Testing.{Testing, testing-none, testing-next, testing-all}
+use Rattle.dayformat.specs.Format.{tag-at}
+use Rattle.dayformat.specs.Layout.{count}
+use Rattle.dayrows.specs.Test.{first-failing}
 use Rattle.daywriter.specs.Acceptance.{tables-check}
+use borrow.Author.Needs.{needs}
 use Rattle.daywriter.proofs.examine.examine_tables.Statement.{statement}
 use Rattle.daywriter.proofs.examine.examine_tables.Tie as tie
 
-first-failing-row-requires : tie.Need-first-failing-row-requires
+abbrev Inv-loop : tie.InvT-loop
+Inv-loop test number counts numbers found₀ place₀ found place =
+    Testing 4 (λ place. clear (count counts (tag-at place)) (first-failing test counts (col numbers) (tag-at place)) number) place found
+
+abbrev μ-loop : tie.MeasureT-loop
+μ-loop test number counts numbers found₀ place₀ found place = 4 - place
+
+loop-holds : tie.Need-loop-holds Inv-loop μ-loop
+loop-holds c = testing-none _ _
+
+tag-at-requires : tie.Need-tag-at-requires Inv-loop μ-loop
+tag-at-requires c κs = search needs
+
+first-failing-row-requires : tie.Need-first-failing-row-requires Inv-loop μ-loop
 first-failing-row-requires c κs = search needs
 
-first-failing-row-requires-2 : tie.Need-first-failing-row-requires-2
-first-failing-row-requires-2 c κs = search needs
+count-of-requires : tie.Need-count-of-requires Inv-loop μ-loop
+count-of-requires c κs = search needs
 
-first-failing-row-requires-3 : tie.Need-first-failing-row-requires-3
-first-failing-row-requires-3 c κs = search needs
-
-first-failing-row-requires-4 : tie.Need-first-failing-row-requires-4
-first-failing-row-requires-4 c κs = search needs
-
-cast-clear : tie.Need-cast-clear
+cast-clear : tie.Need-cast-clear Inv-loop μ-loop
 cast-clear c = search needs
 
-cast-clear-2 : tie.Need-cast-clear-2
+cast-clear-2 : tie.Need-cast-clear-2 Inv-loop μ-loop
 cast-clear-2 c = search needs
 
-clear-requires : tie.Need-clear-requires
+clear-requires : tie.Need-clear-requires Inv-loop μ-loop
 clear-requires c κs = search needs
 
-cast-clear-3 : tie.Need-cast-clear-3
-cast-clear-3 c = search needs
+add-place : tie.Need-add-place Inv-loop μ-loop
+add-place c = search needs
 
-cast-clear-4 : tie.Need-cast-clear-4
-cast-clear-4 c = search needs
+loop-less : tie.Need-loop-less Inv-loop μ-loop
+loop-less c = search needs
 
-clear-requires-2 : tie.Need-clear-requires-2
-clear-requires-2 c κs = search needs
+loop-again : tie.Need-loop-again Inv-loop μ-loop
+loop-again c =
+    let counted = c .before in
+    let failing = counted .before in
+    let named = failing .before in
+    let turn = named .before in
+    testing-next _ _ (turn .before .loop .inv) (turn .loop-test .taken)
+    (rw (← named .tag-at .ensures, ← failing .first-failing-row .ensures, ← counted .count-of .ensures)) (c .clear .ensures)
 
-cast-clear-5 : tie.Need-cast-clear-5
-cast-clear-5 c = search needs
-
-cast-clear-6 : tie.Need-cast-clear-6
-cast-clear-6 c = search needs
-
-clear-requires-3 : tie.Need-clear-requires-3
-clear-requires-3 c κs = search needs
-
-cast-clear-7 : tie.Need-cast-clear-7
-cast-clear-7 c = search needs
-
-cast-clear-8 : tie.Need-cast-clear-8
-cast-clear-8 c = search needs
-
-clear-requires-4 : tie.Need-clear-requires-4
-clear-requires-4 c κs = search needs
-
-returns : tie.Need-returns
+returns : tie.Need-returns Inv-loop μ-loop
 unfolding tables-check
-returns c =
-    let entry = c .before .before in
-    let point = entry .before .before in
-    let shipper = point .before .before in
-    let meter = shipper .before .before in
-    rw (
-      c .clear4 .ensures,
-      entry .clear3 .ensures,
-      point .clear2 .ensures,
-      shipper .clear .ensures,
-      meter .first-failing-row4 .ensures,
-      meter .before .first-failing-row3 .ensures,
-      meter .before .before .first-failing-row2 .ensures,
-      meter .before .before .before .first-failing-row .ensures,
-    )
+returns c = testing-all _ _ (c .before .loop .inv) (c .loop-test .left)
 
 pub examine-tables-spec : {M : Type 1} → statement M
 examine-tables-spec =
     tie.close
     (tie.spec
+    Inv-loop
+    μ-loop
+    loop-holds
+    tag-at-requires
     first-failing-row-requires
-    first-failing-row-requires-2
-    first-failing-row-requires-3
-    first-failing-row-requires-4
+    count-of-requires
     cast-clear
     cast-clear-2
     clear-requires
-    cast-clear-3
-    cast-clear-4
-    clear-requires-2
-    cast-clear-5
-    cast-clear-6
-    clear-requires-3
-    cast-clear-7
-    cast-clear-8
-    clear-requires-4
+    add-place
+    loop-less
+    loop-again
     returns)

@@ -88,7 +88,11 @@ returns : tie.Need-returns Inv-loop μ-loop
 returns c =
     let now = c .before in
     let counted = now .before in
-    fielding-all _ _ _ _ _ _ _ (now .loop .inv .0) (le-antisymm (now .loop .inv .1) (c .loop-test .left) ∙ counted .count-of .ensures)
+    let start = counted .before .before .before .before .before in
+    let all = le-antisymm (now .loop .inv .1) (c .loop-test .left) ∙ counted .count-of .ensures in
+    let laid = fielding-all _ _ _ _ _ _ _ (now .loop .inv .0) all in
+    let few = fields-small (start .args .tag) (now .loop .row) (omega (arith, now .loop .inv .1, counted .count-of .ok)) in
+    (laid .0, laid .1, omega (arith, few, now .loop .inv .0 .ends))
 
 pub put-fields-spec : {M : Type 1} → statement M
 put-fields-spec =

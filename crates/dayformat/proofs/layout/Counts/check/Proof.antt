@@ -1,61 +1,68 @@
--- The code is the chain of tests as it is defined.
-use borrow.Author.Needs.{needs}
+-- Each count is tested after those before it.
+use mathlib.Core.Path.{ap}
+use Prim.Native.Nat.{_-_}
+use lib.Dec.{leb}
+use Rattle.units.specs.Refusals.{keep}
+use Rattle.units.proofs.Testing.{Testing, testing-none, testing-next, testing-all}
+use Rattle.dayformat.specs.Format.{most, tag-at}
+use Rattle.dayformat.specs.Layout.{count}
 use Rattle.dayformat.specs.Acceptance.{counts-check}
+use borrow.Author.Needs.{needs}
 use Rattle.dayformat.proofs.layout.Counts.check.Statement.{statement}
 use Rattle.dayformat.proofs.layout.Counts.check.Tie as tie
 
-form-of-requires : tie.Need-form-of-requires
+abbrev Inv-loop : tie.InvT-loop
+Inv-loop self found₀ place₀ found place = Testing 4 (λ place. keep (leb (count self (tag-at place)) (most (tag-at place))) 3) place found
+
+abbrev μ-loop : tie.MeasureT-loop
+μ-loop self found₀ place₀ found place = 4 - place
+
+loop-holds : tie.Need-loop-holds Inv-loop μ-loop
+loop-holds c = testing-none _ _
+
+tag-at-requires : tie.Need-tag-at-requires Inv-loop μ-loop
+tag-at-requires c κs = search needs
+
+count-of-requires : tie.Need-count-of-requires Inv-loop μ-loop
+count-of-requires c κs = search needs
+
+form-of-requires : tie.Need-form-of-requires Inv-loop μ-loop
 form-of-requires c κs = search needs
 
-keep-requires : tie.Need-keep-requires
+keep-requires : tie.Need-keep-requires Inv-loop μ-loop
 keep-requires c κs = search needs
 
-form-of-requires-2 : tie.Need-form-of-requires-2
-form-of-requires-2 c κs = search needs
+add-place : tie.Need-add-place Inv-loop μ-loop
+add-place c = search needs
 
-keep-requires-2 : tie.Need-keep-requires-2
-keep-requires-2 c κs = search needs
+loop-less : tie.Need-loop-less Inv-loop μ-loop
+loop-less c = search needs
 
-form-of-requires-3 : tie.Need-form-of-requires-3
-form-of-requires-3 c κs = search needs
+loop-again : tie.Need-loop-again Inv-loop μ-loop
+loop-again c =
+    let formed = c .before .before in
+    let counted = formed .before in
+    let named = counted .before in
+    let turn = named .before in
+    testing-next _ _ (turn .before .loop .inv) (turn .loop-test .taken)
+    (rw (← named .tag-at .ensures, ← counted .count-of .ensures, ap (λ form. form .most) (formed .form-of .ensures))) (c .keep .ensures)
 
-keep-requires-3 : tie.Need-keep-requires-3
-keep-requires-3 c κs = search needs
-
-form-of-requires-4 : tie.Need-form-of-requires-4
-form-of-requires-4 c κs = search needs
-
-keep-requires-4 : tie.Need-keep-requires-4
-keep-requires-4 c κs = search needs
-
-returns : tie.Need-returns
+returns : tie.Need-returns Inv-loop μ-loop
 unfolding counts-check
-returns c =
-    let meters = c .before .before .before in
-    let entries = meters .before .before .before .before in
-    let points = entries .before .before .before .before in
-    let shippers = points .before .before .before .before in
-    rw (
-      c .keep4 .ensures,
-      meters .form-of4 .ensures,
-      meters .before .keep3 .ensures,
-      entries .form-of3 .ensures,
-      entries .before .keep2 .ensures,
-      points .form-of2 .ensures,
-      points .before .keep .ensures,
-      shippers .form-of .ensures,
-    )
+returns c = testing-all _ _ (c .before .loop .inv) (c .loop-test .left)
 
 pub check-spec : {M : Type 1} → statement M
 check-spec =
     tie.close
     (tie.spec
+    Inv-loop
+    μ-loop
+    loop-holds
+    tag-at-requires
+    count-of-requires
     form-of-requires
     keep-requires
-    form-of-requires-2
-    keep-requires-2
-    form-of-requires-3
-    keep-requires-3
-    form-of-requires-4
-    keep-requires-4
+    add-place
+    loop-less
+    loop-again
     returns)

@@ -1,5 +1,0 @@
-pub mod Bodies
-pub mod BodyReading
-pub mod Determined
-pub mod Following
-pub mod KindReading

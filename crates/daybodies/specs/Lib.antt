@@ -1,2 +1,0 @@
-pub mod Body
-pub mod Private

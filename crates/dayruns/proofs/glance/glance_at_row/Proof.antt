@@ -1,0 +1,133 @@
+-- A row that passes every test but that of its names is sound where both of them are found.
+use mathlib.Core.Path.{_≡_, refl, ap}
+use mathlib.Core.Bool.{true}
+use Prim.Native.Nat.{ℕ, _+_, _^_, _<_}
+use native.Mathlib.Omega.{arith}
+use borrow.Author.Tests.{not-false, ltb-true}
+use lib.ListN.{getD}
+use Rattle.dayformat.specs.declared.form.Tag.the-variants.{Head}
+use Rattle.dayformat.specs.Format.{_is-a_}
+use Rattle.dayrows.proofs.Naming.{names-near}
+use Rattle.dayruns.proofs.Finding.{name-inside, both-named}
+use Rattle.dayruns.proofs.Glancing.{unsure, glanced}
+use borrow.Author.Needs.{needs}
+use Rattle.dayruns.proofs.glance.glance_at_row.Statement.{statement}
+use Rattle.dayruns.proofs.glance.glance_at_row.Tie as tie
+
+abbrev read-of : tie.After-names-of → tie.After-read-row
+read-of c = c .before .before .before .before
+
+abbrev start-of : tie.After-names-of → tie.Start
+start-of c = read-of c .before .before .before .before
+
+-- the row is read
+kept : (c : tie.After-names-of) → read-of c .read-row .result ≡ true
+kept c = not-false (read-of c .read-row .result) (c .before .if1 .left)
+
+-- its names stand not far
+near : (c : tie.After-names-of) (next : ℕ) → next < 2
+    → start-of c .args .to + getD (c .names-of .result) next (0 is-a Head) .place < 2 ^ 44
+near c next l =
+    let is = ap (λ list. getD list next (0 is-a Head) .place) (c .names-of .ensures) in
+    omega (arith, start-of c .pre .1, names-near (start-of c .args .tag) next (0 is-a Head) l, is)
+
+read-row-requires : tie.Need-read-row-requires
+read-row-requires c κs = search needs
+
+same-length : tie.Need-same-length
+same-length c = search needs
+
+returns : tie.Need-returns
+returns c = unsure _ _ _ _ _ _ _ (c .before .before .before .read-row .ensures)
+
+names-of-requires : tie.Need-names-of-requires
+names-of-requires c κs = search needs
+
+array-copy-out-one : tie.Need-array-copy-out-one
+array-copy-out-one c = search needs
+
+add-row-from : tie.Need-add-row-from
+add-row-from c = omega (arith, near (c .before .before .before) 0 (omega arith))
+
+row-from-requires : tie.Need-row-from-requires
+row-from-requires c κs =
+    let named = c .before .before .before in
+    name-inside (read-of named .read-row .ensures) (kept named) (start-of named .pre .0) (named .names-of .ensures) 0 (0 is-a Head)
+    (omega arith)
+
+array-copy-out-other : tie.Need-array-copy-out-other
+array-copy-out-other c = search needs
+
+add-row-from-2 : tie.Need-add-row-from-2
+add-row-from-2 c = omega (arith, near (c .before .before .before .before .before .before .before) 1 (omega arith))
+
+row-from-requires-2 : tie.Need-row-from-requires-2
+row-from-requires-2 c κs =
+    let named = c .before .before .before .before .before .before .before in
+    name-inside (read-of named .read-row .ensures) (kept named) (start-of named .pre .0) (named .names-of .ensures) 1 (0 is-a Head)
+    (omega arith)
+
+count-of-requires : tie.Need-count-of-requires
+count-of-requires c κs = search needs
+
+cast-if2 : tie.Need-cast-if2
+cast-if2 c = search needs
+
+same-length-2 : tie.Need-same-length-2
+same-length-2 c = search needs
+
+returns-2 : tie.Need-returns-2
+returns-2 c =
+    let first = c .before .before .before .before .before .before in
+    let named = first .before .before .before .before in
+    unsure _ _ _ _ _ _ _ (read-of named .read-row .ensures)
+
+count-of-requires-2 : tie.Need-count-of-requires-2
+count-of-requires-2 c κs = search needs
+
+cast-t26 : tie.Need-cast-t26
+cast-t26 c = search needs
+
+same-length-3 : tie.Need-same-length-3
+same-length-3 c = search needs
+
+returns-3 : tie.Need-returns-3
+returns-3 c =
+    let there = c .before in
+    let counted = there .before in
+    let second = counted .before in
+    let first = second .before .before .before .before in
+    let named = first .before .before .before .before in
+    let start = start-of named in
+    glanced _ _ _ _ _ _ _ (read-of named .read-row .ensures)
+    (λ yes.
+    let less : second .row-from2 .result < c .count-of2 .result = ltb-true _ _ yes in (
+      kept named,
+      refl,
+      both-named (start .args .counts) _ (start .args .tag) (start .args .row) (start .pre .0) (0 is-a Head) (named .names-of .ensures)
+          (first .row-from .ensures (omega (arith, there .if2 .left, counted .count-of .ensures)))
+          (second .row-from2 .ensures (omega (arith, less, c .count-of2 .ensures))),
+    ))
+
+pub glance-at-row-spec : {M : Type 1} → statement M
+glance-at-row-spec =
+    tie.close
+    (tie.spec
+    read-row-requires
+    same-length
+    returns
+    names-of-requires
+    array-copy-out-one
+    add-row-from
+    row-from-requires
+    array-copy-out-other
+    add-row-from-2
+    row-from-requires-2
+    count-of-requires
+    cast-if2
+    same-length-2
+    returns-2
+    count-of-requires-2
+    cast-t26
+    same-length-3
+    returns-3)
