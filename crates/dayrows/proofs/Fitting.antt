@@ -1,17 +1,20 @@
 -- What a tag's data promise: names and MDQs stand within the row, and what is named is listed in a table before.
 use mathlib.Core.Path.{_≡_, refl}
 use mathlib.Core.Bool.{Bool, true, false, cond}
-use Prim.Native.Nat.{_+_, _≤_, _<_}
+use mathlib.Core.List.{List}
+use Prim.Native.Nat.{ℕ, _+_, _≤_, _<_}
 use native.Mathlib.Omega.{arith}
 use lib.Dec.{leb, ltb, eqb}
+use lib.ListN.{getD}
 use borrow.Author.Tests.{leb-true, ltb-true, eqb-true}
 use Rattle.columns.specs.First.{first-from}
 use Rattle.dayformat.specs.declared.form.Tag.{Tag}
 use Rattle.dayformat.specs.declared.rules.Name.{Name}
 use Rattle.dayformat.specs.declared.rules.Pair.{Pair}
-use Rattle.dayformat.specs.Format.{names, mdqs, tag-byte, tag-at, table-place, form}
+use Rattle.dayformat.specs.Format.{names, _for_, mdqs, tag-byte, tag-at, table-place, filled, form}
 use Rattle.dayformat.specs.Private.{HasTable}
-use Rattle.dayformat.proofs.Every.{passes-every, byte-tells, all-of}
+use Rattle.dayformat.proofs.Every.{passes-every, byte-tells, all-of, all-at}
+use Rattle.dayformat.proofs.Filled.{length-filled}
 use Rattle.dayrows.proofs.Within.{both}
 
 -- ---- a name
@@ -55,3 +58,14 @@ inside-row-is tag pair e =
 pub mdqs-inside : (tag : Tag) → all-of (inside-row tag) (mdqs tag) ≡ true
 unfolding first-from
 mdqs-inside = passes-every (λ tag. all-of (inside-row tag) (mdqs tag)) refl (omega arith)
+
+-- the array of a tag's MDQs, filled up, has places within the row
+pub pair-inside : (tag : Tag) {list : List Pair} → list ≡ filled 2 (0 for 0) (mdqs tag) → (next : ℕ) (past : Pair) → next < 2
+    → (getD list next past .mdq < form tag .columns) × (getD list next past .schedule < form tag .columns)
+unfolding first-from
+pair-inside tag is next past l =
+    rw is
+    (inside-row-is tag (getD (filled 2 (0 for 0) (mdqs tag)) next past)
+    (all-at (inside-row tag) (filled 2 (0 for 0) (mdqs tag))
+    (passes-every (λ tag. all-of (inside-row tag) (filled 2 (0 for 0) (mdqs tag))) refl (omega arith) tag) next past
+    (rw length-filled l)))

@@ -85,7 +85,7 @@ module _ (f : ℕ → ℕ) (at : ℕ) where
     unfolding some-idle
     idle-next e = rw (drop-cons list next past l, e, add-one)
 
--- ---- the places of a row's names and MDQs are near its begin
+-- ---- the places of a row's names are near its begin
 pub names-near : (tag : Tag) (next : ℕ) (past : Name) → next < 2 → getD (filled 2 (0 is-a Head) (names tag)) next past .place ≤ 68
 unfolding first-from
 names-near tag next past l =
@@ -93,17 +93,3 @@ names-near tag next past l =
     (all-at (λ name. leb (name .place) 68) (filled 2 (0 is-a Head) (names tag))
     (passes-every (λ tag. all-of (λ name. leb (name .place) 68) (filled 2 (0 is-a Head) (names tag))) refl (omega arith) tag) next past
     (rw length-filled l))
-
-pub mdqs-near : (tag : Tag) (next : ℕ) (past : Pair) → next < 2
-    → (getD (filled 2 (0 for 0) (mdqs tag)) next past .mdq ≤ 68) × (getD (filled 2 (0 for 0) (mdqs tag)) next past .schedule ≤ 68)
-unfolding first-from
-mdqs-near tag next past l = (
-  leb-true _ _
-      (all-at (λ pair. leb (pair .mdq) 68) (filled 2 (0 for 0) (mdqs tag))
-      (passes-every (λ tag. all-of (λ pair. leb (pair .mdq) 68) (filled 2 (0 for 0) (mdqs tag))) refl (omega arith) tag) next past
-      (rw length-filled l)),
-  leb-true _ _
-      (all-at (λ pair. leb (pair .schedule) 68) (filled 2 (0 for 0) (mdqs tag))
-      (passes-every (λ tag. all-of (λ pair. leb (pair .schedule) 68) (filled 2 (0 for 0) (mdqs tag))) refl (omega arith) tag) next past
-      (rw length-filled l)),
-)

@@ -113,7 +113,7 @@ kinds-long : (kinds : List Several) (list : List ℕ) → length (decode (kind-w
 kinds-long kinds list = length-decode (kind-widths kinds) list ∙ length-widths kinds
 
 -- ---- kinds read one after another
-infixl 50 _then_
+infixl 50 _followed-by_
 pub kinds-none : (file : List ℕ) (from : Cursor) (lent : List ℕ) → KindsRead [] file from lent lent from
 unfolding decode size
 kinds-none file from lent = record { lays = refl; byte = omega arith; place = omega arith; keeps = λ e place l. absurd (omega (arith, l)) }
@@ -184,8 +184,8 @@ module _ {kinds : List Several} {file : List ℕ} {from cursor : Cursor} {lent b
         (rw (column-past kinds more (i - numbers-of kinds), column-first (many of column) [] (i - numbers-of kinds) inside, there)
         (within (i - numbers-of kinds) inside))
 
-    pub _then_ : KindsRead (kinds ++ (many of column ∷ [])) file from lent after next
-    _then_ =
+    pub _followed-by_ : KindsRead (kinds ++ (many of column ∷ [])) file from lent after next
+    _followed-by_ =
         record {
           lays = K .lays ∙ rw (R .lays, R .place, whole, sets-append, long);
           byte = K .byte ∙ rw (R .byte, widths-more, size-append, size-replicate) (omega arith);

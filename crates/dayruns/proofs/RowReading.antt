@@ -3,41 +3,25 @@ use mathlib.Core.Path.{_≡_, refl, ap, sym, _∙_}
 use mathlib.Core.Bool.{Bool, true, false, cond, not, true≢false}
 use mathlib.Core.List.{List}
 use mathlib.Core.Logic.{inl, inr, ⊎-elim}
-use Prim.Native.Nat.{ℕ, _+_, _≤_, _<_}
+use Prim.Native.Nat.{ℕ, _+_, _≤_}
 use native.Mathlib.Omega.{arith}
 use lib.Dec.{ltb}
-use lib.ListN.{length, getD, drop}
+use lib.ListN.{length, drop}
 use lib.Seq.{length-sets}
 use Rattle.columns.specs.Column.{col}
-use Rattle.columns.specs.First.{first-from}
 use Rattle.bigendian.specs.Row.{decode}
 use Rattle.dayformat.specs.declared.form.Tag.{Tag}
-use Rattle.dayformat.specs.declared.rules.Pair.{Pair}
 use Rattle.dayformat.specs.declared.layout.Counts.{Counts}
-use Rattle.dayformat.specs.Format.{_for_, mdqs, widths, filled, form}
+use Rattle.dayformat.specs.Format.{widths, form}
 use Rattle.dayformat.specs.Layout.{row-start}
-use Rattle.dayformat.proofs.Every.{passes-every, all-of, all-at}
-use Rattle.dayformat.proofs.Filled.{length-filled}
 use Rattle.dayrows.specs.Test.{bounded, rises, starved, passes}
 use Rattle.dayrows.proofs.Breaking.{broken-none}
-use Rattle.dayrows.proofs.Fitting.{inside-row, inside-row-is}
 use Rattle.dayrows.proofs.Within.{both}
 use Rattle.dayruns.specs.Private.{Placed, BodyRoom, BodyRead, Ready, orderly, RowRead}
 
 -- a place told of a tag by another name
 pub placed-as : (counts : Counts) {tag other : Tag} (row to : ℕ) → tag ≡ other → Placed counts tag row to → Placed counts other row to
 placed-as counts row to is placed = rw is at placed
-
--- the array of a tag's MDQs, filled up, has places within the row
-pub pair-inside : (tag : Tag) {list : List Pair} → list ≡ filled 2 (0 for 0) (mdqs tag) → (next : ℕ) (past : Pair) → next < 2
-    → (getD list next past .mdq < form tag .columns) × (getD list next past .schedule < form tag .columns)
-unfolding first-from
-pair-inside tag is next past l =
-    rw is
-    (inside-row-is tag (getD (filled 2 (0 for 0) (mdqs tag)) next past)
-    (all-at (inside-row tag) (filled 2 (0 for 0) (mdqs tag))
-    (passes-every (λ tag. all-of (inside-row tag) (filled 2 (0 for 0) (mdqs tag))) refl (omega arith) tag) next past
-    (rw length-filled l)))
 
 -- a field that is ready has its body behind its header
 pub ready-room : (file : List ℕ) (tag : Tag) (at to : ℕ) (kept : Bool) (lent : List ℕ) → Ready file tag at to (length lent)

@@ -1,14 +1,16 @@
 -- Some schedule from `next` on is without its MDQ exactly where some is at all.
 use mathlib.Core.Path.{_≡_, ap, sym, _∙_}
-use Prim.Native.Nat.{_+_, _-_, _≤_}
+use Prim.Native.Nat.{_+_, _-_, _≤_, _<_}
 use native.Mathlib.Omega.{arith}
 use lib.ListN.{length, getD, drop, drop-of-length-le}
 use Rattle.columns.specs.Column.{col}
 use Rattle.daytable.specs.Acceptance.{idle}
 use Rattle.dayformat.specs.Format.{_for_, mdqs}
 use Rattle.dayformat.proofs.Filled.{length-filled}
+use Rattle.dayformat.proofs.Small.{small}
 use Rattle.dayrows.specs.Test.{some-idle, starved}
-use Rattle.dayrows.proofs.Naming.{idle-filled, idle-here, idle-next, mdqs-near}
+use Rattle.dayrows.proofs.Fitting.{pair-inside}
+use Rattle.dayrows.proofs.Naming.{idle-filled, idle-here, idle-next}
 use borrow.Author.Needs.{needs}
 use Rattle.dayrows.proofs.mdqs.is_starved.Statement.{statement}
 use Rattle.dayrows.proofs.mdqs.is_starved.Tie as tie
@@ -28,8 +30,12 @@ long : (c : tie.After-mdqs-of Inv-loop μ-loop) → length (c .mdqs-of .result) 
 long c = ap length (c .mdqs-of .ensures) ∙ length-filled 2 (0 for 0) (mdqs (start-of c .args .tag))
 
 near : (c : tie.In-loop Inv-loop μ-loop)
-    → let pair = getD (c .before .before .mdqs-of .result) (c .before .loop .next) (0 for 0) in (pair .mdq ≤ 68) × (pair .schedule ≤ 68)
-near c = rw (c .before .before .mdqs-of .ensures) (mdqs-near (start-of (c .before .before) .args .tag) _ _ (c .loop-test .taken))
+    → let pair = getD (c .before .before .mdqs-of .result) (c .before .loop .next) (0 for 0) in (pair .mdq < 68) × (pair .schedule < 68)
+near c =
+    let asked = c .before .before in
+    let tag = start-of asked .args .tag in
+    let inside = pair-inside tag (asked .mdqs-of .ensures) (c .before .loop .next) (0 for 0) (c .loop-test .taken) in
+    (omega (arith, inside .0, small tag .columns), omega (arith, inside .1, small tag .columns))
 
 is : (c : tie.After-mdqs-of Inv-loop μ-loop)
     → let args = start-of c .args in

@@ -1,7 +1,7 @@
 -- The name, the MDQs, the hours, the schedules, then the backhaul.
 use mathlib.Core.Path.{refl}
 use Rattle.dayformat.specs.declared.form.Tag.the-variants.{Meter}
-use Rattle.dayruns.proofs.BodyReading.{_then_, kinds-none, kind-room}
+use Rattle.dayruns.proofs.BodyReading.{_followed-by_, kinds-none, kind-room}
 use borrow.Author.Needs.{needs}
 use Rattle.dayruns.proofs.body.read_meter.Statement.{statement}
 use Rattle.dayruns.proofs.body.read_meter.Tie as tie
@@ -14,13 +14,13 @@ read-kind-requires c κs =
 read-kind-requires-2 : tie.Need-read-kind-requires-2
 read-kind-requires-2 c κs =
     let one = c .before .before .before in
-    kind-room (kinds-none _ _ _ then one .read-kind .ensures) Meter _ _ refl (one .before .before .before .before .pre)
+    kind-room (kinds-none _ _ _ followed-by one .read-kind .ensures) Meter _ _ refl (one .before .before .before .before .pre)
 
 read-kind-requires-3 : tie.Need-read-kind-requires-3
 read-kind-requires-3 c κs =
     let two = c .before .before .before in
     let one = two .before .before .before .before in
-    kind-room (kinds-none _ _ _ then one .read-kind .ensures then two .read-kind2 .ensures) Meter _ _ refl
+    kind-room (kinds-none _ _ _ followed-by one .read-kind .ensures followed-by two .read-kind2 .ensures) Meter _ _ refl
     (one .before .before .before .before .pre)
 
 read-kind-requires-4 : tie.Need-read-kind-requires-4
@@ -28,7 +28,7 @@ read-kind-requires-4 c κs =
     let three = c .before .before .before in
     let two = three .before .before .before .before in
     let one = two .before .before .before .before in
-    kind-room (kinds-none _ _ _ then one .read-kind .ensures then two .read-kind2 .ensures then three .read-kind3 .ensures) Meter _ _ refl
+    kind-room (kinds-none _ _ _ followed-by one .read-kind .ensures followed-by two .read-kind2 .ensures followed-by three .read-kind3 .ensures) Meter _ _ refl
     (one .before .before .before .before .pre)
 
 read-kind-requires-5 : tie.Need-read-kind-requires-5
@@ -38,8 +38,8 @@ read-kind-requires-5 c κs =
     let two = three .before .before .before .before in
     let one = two .before .before .before .before in
     kind-room
-    (kinds-none _ _ _ then one .read-kind .ensures then two .read-kind2 .ensures then three .read-kind3 .ensures
-    then four .read-kind4 .ensures) Meter _ _ refl (one .before .before .before .before .pre)
+    (kinds-none _ _ _ followed-by one .read-kind .ensures followed-by two .read-kind2 .ensures followed-by three .read-kind3 .ensures
+    followed-by four .read-kind4 .ensures) Meter _ _ refl (one .before .before .before .before .pre)
 
 same-length : tie.Need-same-length
 same-length c = search needs
@@ -51,8 +51,8 @@ returns c =
     let three = four .before .before .before .before in
     let two = three .before .before .before .before in
     let one = two .before .before .before .before in
-    kinds-none _ _ _ then one .read-kind .ensures then two .read-kind2 .ensures then three .read-kind3 .ensures
-    then four .read-kind4 .ensures then five .read-kind5 .ensures
+    kinds-none _ _ _ followed-by one .read-kind .ensures followed-by two .read-kind2 .ensures followed-by three .read-kind3 .ensures
+    followed-by four .read-kind4 .ensures followed-by five .read-kind5 .ensures
 
 pub read-meter-spec : {M : Type 1} → statement M
 read-meter-spec =

@@ -1,7 +1,7 @@
 -- The side, the name, then the capacity.
 use mathlib.Core.Path.{refl}
 use Rattle.dayformat.specs.declared.form.Tag.the-variants.{Point}
-use Rattle.dayruns.proofs.BodyReading.{_then_, kinds-none, kind-room}
+use Rattle.dayruns.proofs.BodyReading.{_followed-by_, kinds-none, kind-room}
 use borrow.Author.Needs.{needs}
 use Rattle.dayruns.proofs.body.read_point.Statement.{statement}
 use Rattle.dayruns.proofs.body.read_point.Tie as tie
@@ -14,13 +14,13 @@ read-kind-requires c κs =
 read-kind-requires-2 : tie.Need-read-kind-requires-2
 read-kind-requires-2 c κs =
     let one = c .before .before .before in
-    kind-room (kinds-none _ _ _ then one .read-kind .ensures) Point _ _ refl (one .before .before .before .before .pre)
+    kind-room (kinds-none _ _ _ followed-by one .read-kind .ensures) Point _ _ refl (one .before .before .before .before .pre)
 
 read-kind-requires-3 : tie.Need-read-kind-requires-3
 read-kind-requires-3 c κs =
     let two = c .before .before .before in
     let one = two .before .before .before .before in
-    kind-room (kinds-none _ _ _ then one .read-kind .ensures then two .read-kind2 .ensures) Point _ _ refl
+    kind-room (kinds-none _ _ _ followed-by one .read-kind .ensures followed-by two .read-kind2 .ensures) Point _ _ refl
     (one .before .before .before .before .pre)
 
 same-length : tie.Need-same-length
@@ -31,7 +31,7 @@ returns c =
     let three = c .before .before in
     let two = three .before .before .before .before in
     let one = two .before .before .before .before in
-    kinds-none _ _ _ then one .read-kind .ensures then two .read-kind2 .ensures then three .read-kind3 .ensures
+    kinds-none _ _ _ followed-by one .read-kind .ensures followed-by two .read-kind2 .ensures followed-by three .read-kind3 .ensures
 
 pub read-point-spec : {M : Type 1} → statement M
 read-point-spec =

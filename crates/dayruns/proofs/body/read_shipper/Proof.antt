@@ -1,7 +1,7 @@
 -- The name, then the MDQs and the schedules.
 use mathlib.Core.Path.{refl}
 use Rattle.dayformat.specs.declared.form.Tag.the-variants.{Shipper}
-use Rattle.dayruns.proofs.BodyReading.{_then_, kinds-none, kind-room}
+use Rattle.dayruns.proofs.BodyReading.{_followed-by_, kinds-none, kind-room}
 use borrow.Author.Needs.{needs}
 use Rattle.dayruns.proofs.body.read_shipper.Statement.{statement}
 use Rattle.dayruns.proofs.body.read_shipper.Tie as tie
@@ -14,7 +14,7 @@ read-kind-requires c κs =
 read-kind-requires-2 : tie.Need-read-kind-requires-2
 read-kind-requires-2 c κs =
     let one = c .before .before .before in
-    kind-room (kinds-none _ _ _ then one .read-kind .ensures) Shipper _ _ refl (one .before .before .before .before .pre)
+    kind-room (kinds-none _ _ _ followed-by one .read-kind .ensures) Shipper _ _ refl (one .before .before .before .before .pre)
 
 same-length : tie.Need-same-length
 same-length c = search needs
@@ -23,7 +23,7 @@ returns : tie.Need-returns
 returns c =
     let two = c .before .before in
     let one = two .before .before .before .before in
-    kinds-none _ _ _ then one .read-kind .ensures then two .read-kind2 .ensures
+    kinds-none _ _ _ followed-by one .read-kind .ensures followed-by two .read-kind2 .ensures
 
 pub read-shipper-spec : {M : Type 1} → statement M
 read-shipper-spec =

@@ -9,7 +9,7 @@ use Rattle.dayformat.specs.Format.{_for_, mdqs, form}
 use Rattle.dayformat.proofs.Filled.{length-filled}
 use Rattle.dayrows.specs.Test.{some-idle, starved}
 use Rattle.dayrows.proofs.Naming.{idle-filled, idle-here, idle-next}
-use Rattle.dayruns.proofs.RowReading.{pair-inside}
+use Rattle.dayrows.proofs.Fitting.{pair-inside}
 use borrow.Author.Needs.{needs}
 use Rattle.dayruns.proofs.row.is_fed.Statement.{statement}
 use Rattle.dayruns.proofs.row.is_fed.Tie as tie
