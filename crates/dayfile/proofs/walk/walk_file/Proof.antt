@@ -5,6 +5,7 @@ use native.Mathlib.Nat.{le-antisymm}
 use native.Mathlib.Numerals.{add-one}
 use native.Mathlib.Omega.{arith}
 use lib.ListN.{length, length-replicate}
+use Rattle.dayformat.specs.Format.{many-tables}
 use Rattle.dayformat.specs.Layout.{most-numbers}
 use Rattle.dayfile.specs.File.{tables-to}
 use Rattle.dayfile.proofs.Stages.{Stage, stage-first, stage-next, stage-last}
@@ -13,10 +14,10 @@ use Rattle.dayfile.proofs.walk.walk_file.Statement.{statement}
 use Rattle.dayfile.proofs.walk.walk_file.Tie as tie
 
 abbrev Inv-loop : tie.InvT-loop
-Inv-loop file numbers₀ walk₀ place₀ numbers walk place = Stage place (tables-to file place) walk numbers × (place ≤ 4)
+Inv-loop file numbers₀ walk₀ place₀ numbers walk place = Stage place (tables-to file place) walk numbers × (place ≤ many-tables)
 
 abbrev μ-loop : tie.MeasureT-loop
-μ-loop file numbers₀ walk₀ place₀ numbers walk place = 4 - place
+μ-loop file numbers₀ walk₀ place₀ numbers walk place = many-tables - place
 
 begin-requires : tie.Need-begin-requires Inv-loop μ-loop
 begin-requires c κs = search needs

@@ -3,7 +3,7 @@ use Prim.Native.Nat.{_-_}
 use Rattle.columns.specs.Column.{col}
 use Rattle.units.specs.Refusals.{clear}
 use Rattle.units.proofs.Testing.{Testing, testing-none, testing-next, testing-all}
-use Rattle.dayformat.specs.Format.{tag-at}
+use Rattle.dayformat.specs.Format.{many-tables, tag-at}
 use Rattle.dayformat.specs.Layout.{count}
 use Rattle.dayrows.specs.Test.{first-failing}
 use Rattle.daywriter.specs.Acceptance.{tables-check}
@@ -13,10 +13,11 @@ use Rattle.daywriter.proofs.examine.examine_tables.Tie as tie
 
 abbrev Inv-loop : tie.InvT-loop
 Inv-loop test number counts numbers found₀ place₀ found place =
-    Testing 4 (λ place. clear (count counts (tag-at place)) (first-failing test counts (col numbers) (tag-at place)) number) place found
+    Testing many-tables (λ place. clear (count counts (tag-at place)) (first-failing test counts (col numbers) (tag-at place)) number) place
+    found
 
 abbrev μ-loop : tie.MeasureT-loop
-μ-loop test number counts numbers found₀ place₀ found place = 4 - place
+μ-loop test number counts numbers found₀ place₀ found place = many-tables - place
 
 loop-holds : tie.Need-loop-holds Inv-loop μ-loop
 loop-holds c = testing-none _ _

@@ -4,6 +4,7 @@ use native.Mathlib.Nat.{le-antisymm}
 use native.Mathlib.Omega.{arith}
 use borrow.Author.Needs.{needs}
 use Rattle.columns.specs.Column.{col}
+use Rattle.dayformat.specs.Format.{many-tables}
 use Rattle.dayformat.proofs.Sizes.{head-size}
 use Rattle.daywriter.proofs.FieldLaying.{Tabling, tabling-none, tabling-next, tabling-long, tabling-all}
 use Rattle.daywriter.proofs.put.put_tables.Statement.{statement}
@@ -11,10 +12,10 @@ use Rattle.daywriter.proofs.put.put_tables.Tie as tie
 
 abbrev Inv-loop : tie.InvT-loop
 Inv-loop counts numbers block₀ at₀ place₀ block at place =
-    Tabling counts (col numbers) block₀ 15 place block at × (place ≤ 4) × (at ≤ 15 + place * 2 ^ 41)
+    Tabling counts (col numbers) block₀ 15 place block at × (place ≤ many-tables) × (at ≤ 15 + place * 2 ^ 41)
 
 abbrev μ-loop : tie.MeasureT-loop
-μ-loop counts numbers block₀ at₀ place₀ block at place = 4 - place
+μ-loop counts numbers block₀ at₀ place₀ block at place = many-tables - place
 
 loop-holds : tie.Need-loop-holds Inv-loop μ-loop
 loop-holds c = (tabling-none _ _ _ _, omega arith, omega arith)

@@ -4,7 +4,7 @@ use Prim.Native.Nat.{_-_}
 use lib.Dec.{leb}
 use Rattle.units.specs.Refusals.{keep}
 use Rattle.units.proofs.Testing.{Testing, testing-none, testing-next, testing-all}
-use Rattle.dayformat.specs.Format.{most, tag-at}
+use Rattle.dayformat.specs.Format.{most, many-tables, tag-at}
 use Rattle.dayformat.specs.Layout.{count}
 use Rattle.dayformat.specs.Acceptance.{counts-check}
 use borrow.Author.Needs.{needs}
@@ -12,10 +12,11 @@ use Rattle.dayformat.proofs.layout.Counts.check.Statement.{statement}
 use Rattle.dayformat.proofs.layout.Counts.check.Tie as tie
 
 abbrev Inv-loop : tie.InvT-loop
-Inv-loop self found₀ place₀ found place = Testing 4 (λ place. keep (leb (count self (tag-at place)) (most (tag-at place))) 3) place found
+Inv-loop self found₀ place₀ found place =
+    Testing many-tables (λ place. keep (leb (count self (tag-at place)) (most (tag-at place))) 3) place found
 
 abbrev μ-loop : tie.MeasureT-loop
-μ-loop self found₀ place₀ found place = 4 - place
+μ-loop self found₀ place₀ found place = many-tables - place
 
 loop-holds : tie.Need-loop-holds Inv-loop μ-loop
 loop-holds c = testing-none _ _
