@@ -18,7 +18,7 @@ abbrev pub Apart : ℕ → List ℕ → Type 0
 Apart byte [] = Unit {0}
 Apart byte (first ∷ rest) = first ≡ byte → ⊥
 
-pub apart-append : (byte : ℕ) (list rest : List ℕ) → Apart byte list → Apart byte rest → Apart byte (list ++ rest)
+apart-append : (byte : ℕ) (list rest : List ℕ) → Apart byte list → Apart byte rest → Apart byte (list ++ rest)
 apart-append byte [] rest first then = then
 apart-append byte (x ∷ list) rest first then = first
 

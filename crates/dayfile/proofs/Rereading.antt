@@ -62,7 +62,7 @@ abbrev pub All-pass : Counts → (ℕ → ℕ) → Tag → Type 0
 All-pass counts numbers tag = (test : Test) (row : ℕ) → row < count counts tag → passes test File counts numbers tag row ≡ true
 
 -- the head's field as it stands, and those of the first so many tables
-abbrev pub fields-to : List ℕ → Counts → (ℕ → ℕ) → ℕ → List ℕ
+abbrev fields-to : List ℕ → Counts → (ℕ → ℕ) → ℕ → List ℕ
 fields-to file counts numbers many =
     field Head (head-row (head-of file)) ++ joined many (λ place. fields counts numbers (tag-at place))
 

@@ -31,7 +31,7 @@ pub every : (P : Tag → Type 0) → P Head → ((place : ℕ) → place < many-
 every P head each tag = ⊎-elim (λ is. rw is head) (λ t. rw (← t .1) (each (table-place tag) (t .0))) (either tag)
 
 -- ---- a test that every place passes
-pub passes-at : (test : ℕ → Bool) (n : ℕ) → n ≤ first n (λ place. not (test place)) → (place : ℕ) → place < n → test place ≡ true
+passes-at : (test : ℕ → Bool) (n : ℕ) → n ≤ first n (λ place. not (test place)) → (place : ℕ) → place < n → test place ≡ true
 passes-at test n all place l = not-false _ (first-passed (λ place. not (test place)) n all place l)
 
 -- the same of every tag

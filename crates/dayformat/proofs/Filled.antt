@@ -12,7 +12,7 @@ use Rattle.columns.specs.First.{first-from}
 use Rattle.dayformat.specs.declared.form.Tag.{Tag}
 use Rattle.dayformat.specs.declared.form.Tag.the-variants.{Head}
 use Rattle.dayformat.specs.declared.body.Several.{Several}
-use Rattle.dayformat.specs.Format.{none, _of_, body, _is-a_, names, _for_, mdqs, column-in, filled}
+use Rattle.dayformat.specs.Format.{none, _of_, body, _is-a_, names, _for_, mdqs, column-in, filled-up}
 use Rattle.dayformat.proofs.Every.{passes-every}
 
 take-replicate : {X : Type 0} (n m : ℕ) (x : X) → n ≤ m → take n (replicate m x) ≡ replicate n x
@@ -20,15 +20,15 @@ take-replicate zero m x l = refl
 take-replicate (suc n) zero x l = absurd (omega (arith, l))
 take-replicate (suc n) (suc m) x l = ap (λ rest. x ∷ rest) (take-replicate n m x (omega (arith, l)))
 
-pub filled-is : {X : Type 0} (many : ℕ) (nothing : X) (list : List X) → length list ≤ many
-    → filled many nothing list ≡ list ++ replicate (many - length list) nothing
+filled-is : {X : Type 0} (many : ℕ) (nothing : X) (list : List X) → length list ≤ many
+    → filled-up many nothing list ≡ list ++ replicate (many - length list) nothing
 filled-is many nothing list l =
     let all : length list + (many - length list) ≡ many = omega (arith, l) in
     ap (λ n. take n (list ++ replicate many nothing)) (sym all)
     ∙ take-append-add list (replicate many nothing) (many - length list)
     ∙ ap (λ rest. list ++ rest) (take-replicate (many - length list) many nothing (omega arith))
 
-pub length-filled : {X : Type 0} (many : ℕ) (nothing : X) (list : List X) → length (filled many nothing list) ≡ many
+pub length-filled : {X : Type 0} (many : ℕ) (nothing : X) (list : List X) → length (filled-up many nothing list) ≡ many
 length-filled many nothing list =
     omega (
       arith,
@@ -38,17 +38,17 @@ length-filled many nothing list =
     )
 
 -- ---- there is room for every tag's data
-pub body-filled : (tag : Tag) → filled 5 (0 of none) (body tag) ≡ body tag ++ replicate (5 - length (body tag)) (0 of none)
+body-filled : (tag : Tag) → filled-up 5 (0 of none) (body tag) ≡ body tag ++ replicate (5 - length (body tag)) (0 of none)
 unfolding first-from
 body-filled tag =
     filled-is 5 (0 of none) (body tag) (leb-true _ _ (passes-every (λ tag. leb (length (body tag)) 5) refl (omega arith) tag))
 
-pub names-filled : (tag : Tag) → filled 2 (0 is-a Head) (names tag) ≡ names tag ++ replicate (2 - length (names tag)) (0 is-a Head)
+pub names-filled : (tag : Tag) → filled-up 2 (0 is-a Head) (names tag) ≡ names tag ++ replicate (2 - length (names tag)) (0 is-a Head)
 unfolding first-from
 names-filled tag =
     filled-is 2 (0 is-a Head) (names tag) (leb-true _ _ (passes-every (λ tag. leb (length (names tag)) 2) refl (omega arith) tag))
 
-pub mdqs-filled : (tag : Tag) → filled 2 (0 for 0) (mdqs tag) ≡ mdqs tag ++ replicate (2 - length (mdqs tag)) (0 for 0)
+pub mdqs-filled : (tag : Tag) → filled-up 2 (0 for 0) (mdqs tag) ≡ mdqs tag ++ replicate (2 - length (mdqs tag)) (0 for 0)
 unfolding first-from
 mdqs-filled tag =
     filled-is 2 (0 for 0) (mdqs tag) (leb-true _ _ (passes-every (λ tag. leb (length (mdqs tag)) 2) refl (omega arith) tag))
@@ -64,7 +64,7 @@ unfolding column-in
 column-more [] k place = column-nothing k place
 column-more (several ∷ rest) k place = rw (column-more rest k (place - several .many))
 
-pub column-filled : (tag : Tag) (place : ℕ) → column-in (filled 5 (0 of none) (body tag)) place ≡ column-in (body tag) place
+pub column-filled : (tag : Tag) (place : ℕ) → column-in (filled-up 5 (0 of none) (body tag)) place ≡ column-in (body tag) place
 column-filled tag place = rw (body-filled tag) (column-more (body tag) (5 - length (body tag)) place)
 
 -- ---- the kinds from one on: a number is of the first of them, or of those after it

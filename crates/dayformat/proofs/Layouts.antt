@@ -31,7 +31,7 @@ pub agree-all : (c d : Counts) → Agree many-tables c d → c ≡ d
 agree-all c d same = ap counts-of (fun-ext (every (λ tag. count c tag ≡ count d tag) refl same))
 
 -- ---- a table begins behind the tables before it, and lies within the day's numbers
-pub start-at : (c : Counts) (place : ℕ) → place < many-tables → table-start c (tag-at place) ≡ numbers-before c place
+start-at : (c : Counts) (place : ℕ) → place < many-tables → table-start c (tag-at place) ≡ numbers-before c place
 start-at c place l = ap (numbers-before c) (place-at place l)
 
 pub before-same : (n : ℕ) (c d : Counts) → Agree n c d → numbers-before c n ≡ numbers-before d n
@@ -59,14 +59,14 @@ module _ (n : ℕ) (l : n < many-tables) (c : Counts) (rows : ℕ) where
   pub own-count : count grown-counts (tag-at n) ≡ rows
   own-count = count-made figure (tag-at n) (table-at n l) ∙ rw (eq-eqb (tag-byte (tag-at n)) (tag-byte (tag-at n)) refl)
 
-  pub other-count : (place : ℕ) → place < many-tables → (place ≡ n → ⊥) → count grown-counts (tag-at place) ≡ count c (tag-at place)
+  other-count : (place : ℕ) → place < many-tables → (place ≡ n → ⊥) → count grown-counts (tag-at place) ≡ count c (tag-at place)
   other-count place k other =
       count-made figure (tag-at place) (table-at place k)
       ∙ rw (ne-eqb (tag-byte (tag-at place)) (tag-byte (tag-at n))
       (λ same. other (sym (place-at place k) ∙ ap table-place (byte-tells (tag-at place) (tag-at n) same) ∙ place-at n l)))
 
   -- so the tables before it agree
-  pub agree-before : Agree n grown-counts c
+  agree-before : Agree n grown-counts c
   agree-before place k = other-count place (omega (arith, l)) (λ e. omega (arith, e))
 
   pub few-with : Few c → rows ≤ form (tag-at n) .most → Few grown-counts
@@ -128,7 +128,7 @@ few-held : (c : Counts) → Few c → (place : ℕ) → place < many-tables → 
 few-held c few place l =
     rw (most-count place l) (mul-le-mul-right (form (tag-at place) .columns) (few (tag-at place)))
 
-pub few-before : (c : Counts) → Few c → (n : ℕ) → n ≤ many-tables → numbers-before c n ≤ numbers-before most-counts n
+few-before : (c : Counts) → Few c → (n : ℕ) → n ≤ many-tables → numbers-before c n ≤ numbers-before most-counts n
 few-before c few n l = sum-mono n _ _ (λ place k. few-held c few place (omega (arith, l, k)))
 
 pub few-fit : (c : Counts) → Few c → numbers-in c ≤ most-numbers

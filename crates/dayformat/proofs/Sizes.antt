@@ -32,7 +32,7 @@ module _ (numbers : ℕ → ℕ) (tag : Tag) where
   pub length-fields : (counts : Counts) → length (fields counts numbers tag) ≡ run-size counts tag
   length-fields counts = length-joined _ (field-size tag) (λ row. length-row-field (row-start counts tag row)) (count counts tag)
 
--- a named size of the counts is how many bytes stand before a table, and how many there are
+-- the head's field and those of the first so many tables have as many bytes as the counts say
 pub length-tables : (day : Day) (numbers : ℕ → ℕ) (many : ℕ)
     → length (field Tag.Head (head-row (day .head)) ++ joined many (λ place. fields (day .counts) numbers (tag-at place)))
     ≡ bytes-before (day .counts) many
@@ -48,7 +48,7 @@ pub length-file-of : (day : Day) (numbers : ℕ → ℕ) → length (file-of day
 unfolding file-of
 length-file-of day numbers = length-tables day numbers many-tables
 
--- the fields of tag 2 begin so many bytes in
+-- the fields of the first table begin so many bytes in
 pub head-size : field-size Tag.Head ≡ 15
 unfolding size listed column-in
 head-size = refl

@@ -172,5 +172,5 @@ abbrev pub field : Tag → List ℕ → List ℕ
 field tag row = form tag .byte ∷ bytes length-width (form tag .size) ++ encode (widths tag) row
 
 -- ---- a tag's data as an array of one length, filled up with what says nothing
-abbrev pub filled : {X : Type 0} → ℕ → X → List X → List X
-filled many nothing list = take many (list ++ replicate many nothing)
+abbrev pub filled-up : {X : Type 0} → ℕ → X → List X → List X
+filled-up many nothing list = take many (list ++ replicate many nothing)

@@ -1,7 +1,7 @@
 // What a body holds: so many numbers of one kind, then so many of the next.
 use crate::form::Tag;
 ghost use mathlib.Core.Path.{_≡_};
-ghost use Rattle.dayformat.specs.Format.{none, _of_, body, column-in, filled};
+ghost use Rattle.dayformat.specs.Format.{none, _of_, body, column-in, filled-up};
 
 // A number of a field: how many bytes spell it, and its bounds.
 pub struct Column {
@@ -70,7 +70,7 @@ const NOTHING: Several = Several {
 };
 
 fn body_of(tag: Tag) -> [Several; KINDS]
-    ensures { λ r. ⌜ r ≡ filled 5 (0 of none) (body tag) ⌝ }
+    ensures { λ r. ⌜ r ≡ filled-up 5 (0 of none) (body tag) ⌝ }
 {
     match tag {
         Tag::Head => [

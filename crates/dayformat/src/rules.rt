@@ -1,7 +1,7 @@
 // What a row names, and which of its numbers are an MDQ and its schedule.
 use crate::form::Tag;
 ghost use mathlib.Core.Path.{_≡_};
-ghost use Rattle.dayformat.specs.Format.{_is-a_, names, _for_, mdqs, filled};
+ghost use Rattle.dayformat.specs.Format.{_is-a_, names, _for_, mdqs, filled-up};
 
 // The place of a key in a row, and the tag of the rows that list it.
 pub struct Name {
@@ -24,7 +24,7 @@ const NO_NAME: Name = Name {
 };
 
 pub fn names_of(tag: Tag) -> [Name; NAMES]
-    ensures { λ r. ⌜ r ≡ filled 2 (0 is-a Tag.Head) (names tag) ⌝ }
+    ensures { λ r. ⌜ r ≡ filled-up 2 (0 is-a Tag.Head) (names tag) ⌝ }
 {
     match tag {
         Tag::Head => [NO_NAME, NO_NAME],
@@ -59,7 +59,7 @@ const NO_PAIR: Pair = Pair {
 };
 
 pub fn mdqs_of(tag: Tag) -> [Pair; MDQS]
-    ensures { λ r. ⌜ r ≡ filled 2 (0 for 0) (mdqs tag) ⌝ }
+    ensures { λ r. ⌜ r ≡ filled-up 2 (0 for 0) (mdqs tag) ⌝ }
 {
     match tag {
         Tag::Head => [NO_PAIR, NO_PAIR],

@@ -11,7 +11,7 @@ use Rattle.columns.specs.First.{first-from}
 use Rattle.dayformat.specs.declared.form.Tag.{Tag}
 use Rattle.dayformat.specs.declared.rules.Name.{Name}
 use Rattle.dayformat.specs.declared.rules.Pair.{Pair}
-use Rattle.dayformat.specs.Format.{names, _for_, mdqs, tag-byte, tag-at, table-place, filled, form}
+use Rattle.dayformat.specs.Format.{names, _for_, mdqs, tag-byte, tag-at, table-place, filled-up, form}
 use Rattle.dayformat.specs.Private.{HasTable}
 use Rattle.dayformat.proofs.Every.{passes-every, byte-tells, all-of, all-at}
 use Rattle.dayformat.proofs.Filled.{length-filled}
@@ -60,12 +60,12 @@ unfolding first-from
 mdqs-inside = passes-every (λ tag. all-of (inside-row tag) (mdqs tag)) refl (omega arith)
 
 -- the array of a tag's MDQs, filled up, has places within the row
-pub pair-inside : (tag : Tag) {list : List Pair} → list ≡ filled 2 (0 for 0) (mdqs tag) → (next : ℕ) (past : Pair) → next < 2
+pub pair-inside : (tag : Tag) {list : List Pair} → list ≡ filled-up 2 (0 for 0) (mdqs tag) → (next : ℕ) (past : Pair) → next < 2
     → (getD list next past .mdq < form tag .columns) × (getD list next past .schedule < form tag .columns)
 unfolding first-from
 pair-inside tag is next past l =
     rw is
-    (inside-row-is tag (getD (filled 2 (0 for 0) (mdqs tag)) next past)
-    (all-at (inside-row tag) (filled 2 (0 for 0) (mdqs tag))
-    (passes-every (λ tag. all-of (inside-row tag) (filled 2 (0 for 0) (mdqs tag))) refl (omega arith) tag) next past
+    (inside-row-is tag (getD (filled-up 2 (0 for 0) (mdqs tag)) next past)
+    (all-at (inside-row tag) (filled-up 2 (0 for 0) (mdqs tag))
+    (passes-every (λ tag. all-of (inside-row tag) (filled-up 2 (0 for 0) (mdqs tag))) refl (omega arith) tag) next past
     (rw length-filled l)))

@@ -16,26 +16,26 @@ use Rattle.dayformat.specs.declared.form.Tag.the-variants.{Head}
 use Rattle.dayformat.specs.declared.rules.Name.{Name}
 use Rattle.dayformat.specs.declared.rules.Pair.{Pair}
 use Rattle.dayformat.specs.declared.layout.Counts.{Counts}
-use Rattle.dayformat.specs.Format.{_is-a_, names, _for_, mdqs, filled}
+use Rattle.dayformat.specs.Format.{_is-a_, names, _for_, mdqs, filled-up}
 use Rattle.dayformat.proofs.Every.{passes-every, all-of, all-at}
 use Rattle.dayformat.proofs.Filled.{length-filled, names-filled, mdqs-filled}
-use Rattle.dayrows.specs.Test.{lists, all-listed, named, some-idle, starved}
+use Rattle.dayrows.specs.Test.{lists, names-listed, named, some-idle, starved}
 use Rattle.dayrows.proofs.Enough.{listed-by}
 
 module _ (counts : Counts) (f : ℕ → ℕ) (at : ℕ) where
   -- the head's key is empty, so it is listed wherever it is looked for
-  nothing-listed : (k : ℕ) → all-listed counts f at (replicate k (0 is-a Head)) ≡ true
-  unfolding all-listed
+  nothing-listed : (k : ℕ) → names-listed counts f at (replicate k (0 is-a Head)) ≡ true
+  unfolding names-listed
   nothing-listed zero = refl
   nothing-listed (suc k) =
       rw (listed-by counts f Head 0 (at + 0) (omega arith) (λ place l. absurd (omega (arith, l)))) (nothing-listed k)
 
-  listed-more : (list : List Name) (k : ℕ) → all-listed counts f at (list ++ replicate k (0 is-a Head)) ≡ all-listed counts f at list
-  unfolding all-listed
+  listed-more : (list : List Name) (k : ℕ) → names-listed counts f at (list ++ replicate k (0 is-a Head)) ≡ names-listed counts f at list
+  unfolding names-listed
   listed-more [] k = nothing-listed k
   listed-more (name ∷ rest) k = rw (listed-more rest k)
 
-  pub listed-filled : (tag : Tag) → all-listed counts f at (filled 2 (0 is-a Head) (names tag)) ≡ named counts f tag at
+  pub listed-filled : (tag : Tag) → names-listed counts f at (filled-up 2 (0 is-a Head) (names tag)) ≡ named counts f tag at
   listed-filled tag = rw (names-filled tag) (listed-more (names tag) (2 - length (names tag)))
 
   -- the names from one on: all are listed where the first is and those after it are
@@ -43,13 +43,13 @@ module _ (counts : Counts) (f : ℕ → ℕ) (at : ℕ) where
     abbrev name : Name
     name = getD list next past
 
-    pub unlisted : lists counts f (name .tag) (at + name .place) ≡ false → all-listed counts f at (drop next list) ≡ false
-    unfolding all-listed
+    pub unlisted : lists counts f (name .tag) (at + name .place) ≡ false → names-listed counts f at (drop next list) ≡ false
+    unfolding names-listed
     unlisted e = rw (drop-cons list next past l, e)
 
     pub listed-next : lists counts f (name .tag) (at + name .place) ≡ true
-        → all-listed counts f at (drop next list) ≡ all-listed counts f at (drop (next + 1) list)
-    unfolding all-listed
+        → names-listed counts f at (drop next list) ≡ names-listed counts f at (drop (next + 1) list)
+    unfolding names-listed
     listed-next e = rw (drop-cons list next past l, e, add-one)
 
 module _ (f : ℕ → ℕ) (at : ℕ) where
@@ -68,7 +68,7 @@ module _ (f : ℕ → ℕ) (at : ℕ) where
   idle-more [] k = nothing-idle k
   idle-more (pair ∷ rest) k = rw (idle-more rest k)
 
-  pub idle-filled : (tag : Tag) → some-idle f at (filled 2 (0 for 0) (mdqs tag)) ≡ starved f tag at
+  pub idle-filled : (tag : Tag) → some-idle f at (filled-up 2 (0 for 0) (mdqs tag)) ≡ starved f tag at
   idle-filled tag = rw (mdqs-filled tag) (idle-more (mdqs tag) (2 - length (mdqs tag)))
 
   -- the MDQs from one on: some schedule is without its MDQ where the first is or one after it is
@@ -86,10 +86,10 @@ module _ (f : ℕ → ℕ) (at : ℕ) where
     idle-next e = rw (drop-cons list next past l, e, add-one)
 
 -- ---- the places of a row's names are near its begin
-pub names-near : (tag : Tag) (next : ℕ) (past : Name) → next < 2 → getD (filled 2 (0 is-a Head) (names tag)) next past .place ≤ 68
+pub names-near : (tag : Tag) (next : ℕ) (past : Name) → next < 2 → getD (filled-up 2 (0 is-a Head) (names tag)) next past .place ≤ 68
 unfolding first-from
 names-near tag next past l =
     leb-true _ _
-    (all-at (λ name. leb (name .place) 68) (filled 2 (0 is-a Head) (names tag))
-    (passes-every (λ tag. all-of (λ name. leb (name .place) 68) (filled 2 (0 is-a Head) (names tag))) refl (omega arith) tag) next past
+    (all-at (λ name. leb (name .place) 68) (filled-up 2 (0 is-a Head) (names tag))
+    (passes-every (λ tag. all-of (λ name. leb (name .place) 68) (filled-up 2 (0 is-a Head) (names tag))) refl (omega arith) tag) next past
     (rw length-filled l))

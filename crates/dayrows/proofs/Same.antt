@@ -22,7 +22,7 @@ use Rattle.dayrows.specs.declared.Source.{Source}
 use Rattle.dayrows.specs.declared.Source.the-variants.{File, Side}
 use Rattle.dayrows.specs.declared.Test.{Test}
 use Rattle.dayrows.specs.declared.Test.the-variants.{Bounds, Key, Mdq}
-use Rattle.dayrows.specs.Test.{in-bounds, bounded, difference, less, rises, lists, all-listed, names-known, some-idle, passes, fault}
+use Rattle.dayrows.specs.Test.{in-bounds, bounded, difference, less, rises, lists, names-listed, names-known, some-idle, passes, fault}
 use Rattle.dayrows.proofs.Fitting.{Fits, fits, fits-is, names-fit, inside-row, inside-row-is, mdqs-inside}
 
 -- the tables before a tag's begin where they did, and so does its own
@@ -104,8 +104,8 @@ module _ (f g : ℕ → ℕ) where
 
   names-same : (tag : Tag) (c d : Counts) (row : ℕ) → Agree (table-place tag) c d → Before (row-start c tag (suc row))
       → (list : List Name) → all-of (fits tag) list ≡ true
-      → all-listed c f (row-start c tag row) list ≡ all-listed d g (row-start c tag row) list
-  unfolding all-listed
+      → names-listed c f (row-start c tag row) list ≡ names-listed d g (row-start c tag row) list
+  unfolding names-listed
   names-same tag c d row e same [] all = refl
   names-same tag c d row e same (name ∷ rest) all =
       let first = all-first (fits tag) name rest all in

@@ -55,13 +55,13 @@ lists counts numbers tag at =
     (count counts tag)
 
 -- every name of the row that begins at a place is listed
-unfoldable pub all-listed : Counts → (ℕ → ℕ) → ℕ → List Name → Bool
-all-listed counts numbers at [] = true
-all-listed counts numbers at (name ∷ rest) =
-    cond (lists counts numbers (name .tag) (at + name .place)) (all-listed counts numbers at rest) false
+unfoldable pub names-listed : Counts → (ℕ → ℕ) → ℕ → List Name → Bool
+names-listed counts numbers at [] = true
+names-listed counts numbers at (name ∷ rest) =
+    cond (lists counts numbers (name .tag) (at + name .place)) (names-listed counts numbers at rest) false
 
 abbrev pub named : Counts → (ℕ → ℕ) → Tag → ℕ → Bool
-named counts numbers tag at = all-listed counts numbers at (names tag)
+named counts numbers tag at = names-listed counts numbers at (names tag)
 
 -- in a list of entries names aren't looked up
 abbrev pub names-known : Source → Counts → (ℕ → ℕ) → Tag → ℕ → Bool

@@ -227,6 +227,6 @@ body-read tag {file} {from} {next} {lent} {after} R room = record { lays = inr l
         (λ place l.
         rw (R .lays, col-laid row lent (from .to) place (omega (arith, room .1, long)) (omega (arith, l, long))) (R .keeps k place l))
 
--- nothing is laid of a head
+-- a body that is not read
 pub body-unread : (tag : Tag) {file : List ℕ} {from : Cursor} {lent : List ℕ} → BodyRead file tag from lent lent false
 body-unread tag = record { lays = inl refl; keeps = λ no. absurd (true≢false (sym no)) }

@@ -17,14 +17,14 @@ use Rattle.dayformat.specs.declared.form.Tag.the-variants.{Head, Shipper, Point
 use Rattle.dayformat.specs.declared.form.Form.{Form}
 use Rattle.dayformat.specs.declared.rules.Name.{Name}
 use Rattle.dayformat.specs.declared.layout.Counts.{Counts}
-use Rattle.dayformat.specs.Format.{_is-a_, names, tag-byte, table-place, filled, form}
+use Rattle.dayformat.specs.Format.{_is-a_, names, tag-byte, table-place, filled-up, form}
 use Rattle.dayformat.specs.Layout.{count, row-start}
 use Rattle.dayformat.specs.Private.{HasTable}
 use Rattle.dayformat.proofs.Every.{either, passes-every, byte-tells, all-of, all-at}
 use Rattle.dayformat.proofs.Filled.{length-filled}
 use Rattle.dayformat.proofs.Layouts.{before-next, before-within}
 use Rattle.dayformat.proofs.Small.{small}
-use Rattle.dayrows.specs.Test.{lists, all-listed, named}
+use Rattle.dayrows.specs.Test.{lists, names-listed, named}
 use Rattle.dayrows.proofs.Enough.{listed-by}
 use Rattle.dayrows.proofs.Naming.{listed-filled}
 use Rattle.dayrows.proofs.Within.{both}
@@ -82,17 +82,17 @@ rows-inside counts tag other row room ends (inr t) i l =
 
 module _ {counts : Counts} {file : List ℕ} {tag : Tag} {at row : ℕ} {lent after : List ℕ} {kept : Bool}
     (R : RowRead counts file tag at row lent after kept) (k : kept ≡ true) {to : ℕ} (here : to ≡ row-start counts tag row)
-    {list : List Name} (is : list ≡ filled 2 (0 is-a Head) (names tag)) where
+    {list : List Name} (is : list ≡ filled-up 2 (0 is-a Head) (names tag)) where
   pub name-inside : (next : ℕ) (past : Name) → next < 2
       → KeysInside counts (getD list next past .tag) (to + getD list next past .place) after
   unfolding first-from
   name-inside next past l =
-      let name = getD (filled 2 (0 is-a Head) (names tag)) next past in
+      let name = getD (filled-up 2 (0 is-a Head) (names tag)) next past in
       let fits =
       both (leb (name .place + form (name .tag) .key) (form tag .columns))
       (cond (ltb (table-place (name .tag)) (table-place tag)) true (eqb (tag-byte (name .tag)) (tag-byte Head)))
-      (all-at (sits tag) (filled 2 (0 is-a Head) (names tag))
-      (passes-every (λ tag. all-of (sits tag) (filled 2 (0 is-a Head) (names tag))) refl (omega arith) tag) next past
+      (all-at (sits tag) (filled-up 2 (0 is-a Head) (names tag))
+      (passes-every (λ tag. all-of (sits tag) (filled-up 2 (0 is-a Head) (names tag))) refl (omega arith) tag) next past
       (rw length-filled l))
       in let near = leb-true (name .place + form (name .tag) .key) (form tag .columns) (fits .0) in
       rw is (
@@ -102,28 +102,28 @@ module _ {counts : Counts} {file : List ℕ} {tag : Tag} {at row : ℕ} {lent af
 
 -- ---- where both are listed, so is every name of the row
 module _ (counts : Counts) (f : ℕ → ℕ) where
-  abbrev Known : ℕ → Name → Type 0
-  Known at name = lists counts f (name .tag) (at + name .place) ≡ true
+  abbrev Found : ℕ → Name → Type 0
+  Found at name = lists counts f (name .tag) (at + name .place) ≡ true
 
-  both-listed : (at : ℕ) (list : List Name) (past : Name) → length list ≡ 2 → Known at (getD list 0 past) → Known at (getD list 1 past)
-      → all-listed counts f at list ≡ true
-  unfolding all-listed
+  both-listed : (at : ℕ) (list : List Name) (past : Name) → length list ≡ 2 → Found at (getD list 0 past) → Found at (getD list 1 past)
+      → names-listed counts f at list ≡ true
+  unfolding names-listed
   both-listed at [] past long one two = absurd (omega (arith, long))
   both-listed at (x ∷ []) past long one two = absurd (omega (arith, long))
   both-listed at (x ∷ y ∷ []) past long one two = rw (one, two)
   both-listed at (x ∷ y ∷ z ∷ rest) past long one two = absurd (omega (arith, long))
 
   pub both-named : (tag : Tag) (row : ℕ) {to : ℕ} → to ≡ row-start counts tag row → {list : List Name} (past : Name)
-      → list ≡ filled 2 (0 is-a Head) (names tag) → Known to (getD list 0 past) → Known to (getD list 1 past)
+      → list ≡ filled-up 2 (0 is-a Head) (names tag) → Found to (getD list 0 past) → Found to (getD list 1 past)
       → named counts f tag (row-start counts tag row) ≡ true
   both-named tag row {to} here {list} past is one two =
       ap (named counts f tag) (sym here)
       ∙ sym (listed-filled counts f to tag)
-      ∙ ap (all-listed counts f to) (sym is)
+      ∙ ap (names-listed counts f to) (sym is)
       ∙ both-listed to list past (ap length is ∙ length-filled 2 (0 is-a Head) (names tag)) one two
 
   -- an entry's point and shipper
   pub entry-named : (row : ℕ) {to : ℕ} → to ≡ row-start counts Entry row → lists counts f Point to ≡ true
       → lists counts f Shipper (to + 2) ≡ true → named counts f Entry (row-start counts Entry row) ≡ true
-  unfolding all-listed
+  unfolding names-listed
   entry-named row {to} here point shipper = ap (named counts f Entry) (sym here) ∙ rw (add-zero, point, shipper)

@@ -1,9 +1,9 @@
-// A field seen to be sound at a glance: its row is read once, with its tag's own steps. What is not seen so is taken in full.
+// A field seen to be sound at a glance: its row is read once, by its tag's own reader. What is not seen so is taken in full.
 use crate::names::Near;
 use crate::names::near_entry;
-use crate::names::row_from;
-use crate::row::read_entry_row;
-use crate::row::read_row;
+use crate::names::row_keyed_from;
+use crate::row::see_entry_row;
+use crate::row::see_row;
 use dayformat::Counts;
 use dayformat::ENTRY_BYTE;
 use dayformat::Tag;
@@ -35,7 +35,7 @@ fn glance_at_entry(
     ensures { λ r. ⌜ Glanced Source.File counts (now (file .entry)) Tag.Entry at row
         (now (numbers .entry)) (now (numbers .exit)) (r .sound) ⌝ }
 {
-    if !read_entry_row(counts, file, at, row, numbers, to) {
+    if !see_entry_row(counts, file, at, row, numbers, to) {
         return Glance { sound: false, near };
     }
     let found = near_entry(counts, numbers, to, near);
@@ -63,16 +63,16 @@ fn glance_at_row(
     ensures { λ r. ⌜ Glanced Source.File counts (now (file .entry)) tag at row
         (now (numbers .entry)) (now (numbers .exit)) (r .sound) ⌝ }
 {
-    if !read_row(counts, file, tag, at, row, numbers, to) {
+    if !see_row(counts, file, tag, at, row, numbers, to) {
         return Glance { sound: false, near };
     }
     let names = names_of(tag);
     let one = names[0];
     let one_tag = one.tag;
-    let first = row_from(counts, numbers, one_tag, to + one.place, near.first);
+    let first = row_keyed_from(counts, numbers, one_tag, to + one.place, near.first);
     let other = names[1];
     let other_tag = other.tag;
-    let second = row_from(counts, numbers, other_tag, to + other.place, near.second);
+    let second = row_keyed_from(counts, numbers, other_tag, to + other.place, near.second);
     if count_of(counts, one_tag) as usize <= first {
         return Glance { sound: false, near };
     }
@@ -92,7 +92,7 @@ fn is_file(source: Source) -> bool
     }
 }
 
-// The field of a tag.
+// Entries, of which a file has the most, have a glance of their own.
 pub fn glance_at(
     source: Source,
     counts: Counts,

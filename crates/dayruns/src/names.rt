@@ -118,7 +118,7 @@ fn is_same(numbers: &[usize], key: usize, one: usize, other: usize) -> bool
 }
 
 // The first row of a table, from one on, that has the key at a place, or a row past the last.
-pub fn row_from(counts: Counts, numbers: &[usize], tag: Tag, at: usize, from: usize) -> usize
+pub fn row_keyed_from(counts: Counts, numbers: &[usize], tag: Tag, at: usize, from: usize) -> usize
     requires { ⌜ KeysInside counts tag at (now numbers) ⌝ }
     ensures { λ r. ⌜ (r < count counts tag → lists counts (col (now (numbers .entry))) tag at ≡ true) ⌝ }
 {

@@ -57,9 +57,8 @@ fn is_fed(numbers: &[usize], tag: Tag, at: usize) -> bool
     true
 }
 
-// The row of the field at a byte goes to its place in the numbers, where the field is whole and the row has room. Whether it then is
-// seen to pass every test but that of its names.
-pub fn read_row(
+// The row of a whole field with room goes to its place; whether it is then seen to pass every test but that of its names.
+pub fn see_row(
     counts: Counts,
     file: &[u8],
     tag: Tag,
@@ -85,7 +84,7 @@ pub fn read_row(
 }
 
 // The same of an entry, of which a file has the most: with the tag named, its sizes and places are constants.
-pub fn read_entry_row(
+pub fn see_entry_row(
     counts: Counts,
     file: &[u8],
     at: usize,

@@ -17,7 +17,7 @@ use Rattle.dayformat.specs.Format.{body, column-in}
 use Rattle.dayformat.specs.Layout.{count, row-start}
 use Rattle.dayrows.specs.declared.Source.the-variants.{File}
 use Rattle.dayrows.specs.declared.Test.the-variants as Test
-use Rattle.dayrows.specs.Test.{difference, rises, lists, all-listed, named, passes}
+use Rattle.dayrows.specs.Test.{difference, rises, lists, names-listed, named, passes}
 use Rattle.dayrows.specs.Private.{Sound}
 use Rattle.dayrows.proofs.Within.{both, passes-bounded, within-bounds}
 use Rattle.dayvalues.specs.Row.{number-at}
@@ -40,7 +40,7 @@ module _ (day : Day) (numbers : List ℕ) (S : Sound day numbers) where
 
   shipper-named : (row : ℕ) → row < count (day .counts) Entry
       → lists (day .counts) (col numbers) Shipper (row-start (day .counts) Entry row + 2) ≡ true
-  unfolding passes all-listed
+  unfolding passes names-listed
   shipper-named row l =
       let at = row-start (day .counts) Entry row in
       let kept = both (rises (day .counts) (col numbers) Entry row) (named (day .counts) (col numbers) Entry at)

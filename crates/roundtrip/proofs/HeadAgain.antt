@@ -22,7 +22,7 @@ use Rattle.dayformat.specs.DayBytes.{head-row}
 use Rattle.dayrows.specs.declared.Source.the-variants.{File}
 use Rattle.dayrows.specs.declared.Test.{Test}
 use Rattle.dayrows.specs.declared.Test.the-variants.{Bounds, Key, Mdq}
-use Rattle.dayrows.specs.Test.{in-bounds, bounded, rises, all-listed, some-idle, passes, fault}
+use Rattle.dayrows.specs.Test.{in-bounds, bounded, rises, names-listed, some-idle, passes, fault}
 use Rattle.dayrows.specs.Whole.{broken}
 use Rattle.dayrows.proofs.Faults.{none-fault}
 use Rattle.dayrows.proofs.Breaking.{whole-none}
@@ -78,7 +78,7 @@ module _ (head : Head) (B : Bounded head) where
     rows-back = ap (λ at. decode (widths Tag.Head) (drop (at + 3) file)) first ∙ row-back
 
     head-passes : (test : Test) → passes test File no-rows (col (head-row head)) Tag.Head 0 ≡ true
-    unfolding passes bounded rises all-listed some-idle sum
+    unfolding passes bounded rises names-listed some-idle sum
     head-passes Bounds =
         rw (le-leb 3 _
         (le-of-eq

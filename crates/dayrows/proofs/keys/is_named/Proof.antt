@@ -8,7 +8,7 @@ use Rattle.columns.specs.Column.{col}
 use Rattle.dayformat.specs.declared.form.Tag.the-variants.{Head}
 use Rattle.dayformat.specs.Format.{_is-a_, names}
 use Rattle.dayformat.proofs.Filled.{length-filled}
-use Rattle.dayrows.specs.Test.{all-listed, named}
+use Rattle.dayrows.specs.Test.{names-listed, named}
 use Rattle.dayrows.proofs.Naming.{listed-filled, unlisted, listed-next, names-near}
 use borrow.Author.Needs.{needs}
 use Rattle.dayrows.proofs.keys.is_named.Statement.{statement}
@@ -16,7 +16,7 @@ use Rattle.dayrows.proofs.keys.is_named.Tie as tie
 
 abbrev Inv-loop : tie.InvT-loop
 Inv-loop counts numbers at names next₀ next =
-    (all-listed counts (col numbers) at (drop next names) ≡ all-listed counts (col numbers) at names) × (next ≤ 2)
+    (names-listed counts (col numbers) at (drop next names) ≡ names-listed counts (col numbers) at names) × (next ≤ 2)
 
 abbrev μ-loop : tie.MeasureT-loop
 μ-loop counts numbers at names next₀ next = 2 - next
@@ -33,9 +33,9 @@ near c = rw (c .before .before .names-of .ensures) (names-near (start-of (c .bef
 
 is : (c : tie.After-names-of Inv-loop μ-loop)
     → let args = start-of c .args in
-    all-listed (args .counts) (col (args .numbers .now)) (args .at) (c .names-of .result)
+    names-listed (args .counts) (col (args .numbers .now)) (args .at) (c .names-of .result)
     ≡ named (args .counts) (col (args .numbers .now)) (args .tag) (args .at)
-is c = ap (all-listed _ _ _) (c .names-of .ensures) ∙ listed-filled _ _ _ (start-of c .args .tag)
+is c = ap (names-listed _ _ _) (c .names-of .ensures) ∙ listed-filled _ _ _ (start-of c .args .tag)
 
 names-of-requires : tie.Need-names-of-requires Inv-loop μ-loop
 names-of-requires c κs = search needs
@@ -89,12 +89,12 @@ loop-again c =
     )
 
 returns-2 : tie.Need-returns-2 Inv-loop μ-loop
-unfolding all-listed
+unfolding names-listed
 returns-2 c =
     let now = c .before in
     let names = now .before .names-of .result in
     let past = drop-of-length-le names {i = now .loop .next} (omega (arith, c .loop-test .left, long (now .before))) in
-    ap (all-listed _ _ _) (sym past) ∙ now .loop .inv .0 ∙ is (now .before)
+    ap (names-listed _ _ _) (sym past) ∙ now .loop .inv .0 ∙ is (now .before)
 
 pub is-named-spec : {M : Type 1} → statement M
 is-named-spec =

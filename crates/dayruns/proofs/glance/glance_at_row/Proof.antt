@@ -14,15 +14,15 @@ use borrow.Author.Needs.{needs}
 use Rattle.dayruns.proofs.glance.glance_at_row.Statement.{statement}
 use Rattle.dayruns.proofs.glance.glance_at_row.Tie as tie
 
-abbrev read-of : tie.After-names-of → tie.After-read-row
+abbrev read-of : tie.After-names-of → tie.After-see-row
 read-of c = c .before .before .before .before
 
 abbrev start-of : tie.After-names-of → tie.Start
 start-of c = read-of c .before .before .before .before
 
 -- the row is read
-kept : (c : tie.After-names-of) → read-of c .read-row .result ≡ true
-kept c = not-false (read-of c .read-row .result) (c .before .if1 .left)
+kept : (c : tie.After-names-of) → read-of c .see-row .result ≡ true
+kept c = not-false (read-of c .see-row .result) (c .before .if1 .left)
 
 -- its names stand not far
 near : (c : tie.After-names-of) (next : ℕ) → next < 2
@@ -31,14 +31,14 @@ near c next l =
     let is = ap (λ list. getD list next (0 is-a Head) .place) (c .names-of .ensures) in
     omega (arith, start-of c .pre .1, names-near (start-of c .args .tag) next (0 is-a Head) l, is)
 
-read-row-requires : tie.Need-read-row-requires
-read-row-requires c κs = search needs
+see-row-requires : tie.Need-see-row-requires
+see-row-requires c κs = search needs
 
 same-length : tie.Need-same-length
 same-length c = search needs
 
 returns : tie.Need-returns
-returns c = unsure _ _ _ _ _ _ _ (c .before .before .before .read-row .ensures)
+returns c = unsure _ _ _ _ _ _ _ (c .before .before .before .see-row .ensures)
 
 names-of-requires : tie.Need-names-of-requires
 names-of-requires c κs = search needs
@@ -46,25 +46,25 @@ names-of-requires c κs = search needs
 array-copy-out-one : tie.Need-array-copy-out-one
 array-copy-out-one c = search needs
 
-add-row-from : tie.Need-add-row-from
-add-row-from c = omega (arith, near (c .before .before .before) 0 (omega arith))
+add-row-keyed-from : tie.Need-add-row-keyed-from
+add-row-keyed-from c = omega (arith, near (c .before .before .before) 0 (omega arith))
 
-row-from-requires : tie.Need-row-from-requires
-row-from-requires c κs =
+row-keyed-from-requires : tie.Need-row-keyed-from-requires
+row-keyed-from-requires c κs =
     let named = c .before .before .before in
-    name-inside (read-of named .read-row .ensures) (kept named) (start-of named .pre .0) (named .names-of .ensures) 0 (0 is-a Head)
+    name-inside (read-of named .see-row .ensures) (kept named) (start-of named .pre .0) (named .names-of .ensures) 0 (0 is-a Head)
     (omega arith)
 
 array-copy-out-other : tie.Need-array-copy-out-other
 array-copy-out-other c = search needs
 
-add-row-from-2 : tie.Need-add-row-from-2
-add-row-from-2 c = omega (arith, near (c .before .before .before .before .before .before .before) 1 (omega arith))
+add-row-keyed-from-2 : tie.Need-add-row-keyed-from-2
+add-row-keyed-from-2 c = omega (arith, near (c .before .before .before .before .before .before .before) 1 (omega arith))
 
-row-from-requires-2 : tie.Need-row-from-requires-2
-row-from-requires-2 c κs =
+row-keyed-from-requires-2 : tie.Need-row-keyed-from-requires-2
+row-keyed-from-requires-2 c κs =
     let named = c .before .before .before .before .before .before .before in
-    name-inside (read-of named .read-row .ensures) (kept named) (start-of named .pre .0) (named .names-of .ensures) 1 (0 is-a Head)
+    name-inside (read-of named .see-row .ensures) (kept named) (start-of named .pre .0) (named .names-of .ensures) 1 (0 is-a Head)
     (omega arith)
 
 count-of-requires : tie.Need-count-of-requires
@@ -80,7 +80,7 @@ returns-2 : tie.Need-returns-2
 returns-2 c =
     let first = c .before .before .before .before .before .before in
     let named = first .before .before .before .before in
-    unsure _ _ _ _ _ _ _ (read-of named .read-row .ensures)
+    unsure _ _ _ _ _ _ _ (read-of named .see-row .ensures)
 
 count-of-requires-2 : tie.Need-count-of-requires-2
 count-of-requires-2 c κs = search needs
@@ -99,30 +99,30 @@ returns-3 c =
     let first = second .before .before .before .before in
     let named = first .before .before .before .before in
     let start = start-of named in
-    glanced _ _ _ _ _ _ _ (read-of named .read-row .ensures)
+    glanced _ _ _ _ _ _ _ (read-of named .see-row .ensures)
     (λ yes.
-    let less : second .row-from2 .result < c .count-of2 .result = ltb-true _ _ yes in (
+    let less : second .row-keyed-from2 .result < c .count-of2 .result = ltb-true _ _ yes in (
       kept named,
       refl,
       both-named (start .args .counts) _ (start .args .tag) (start .args .row) (start .pre .0) (0 is-a Head) (named .names-of .ensures)
-          (first .row-from .ensures (omega (arith, there .if2 .left, counted .count-of .ensures)))
-          (second .row-from2 .ensures (omega (arith, less, c .count-of2 .ensures))),
+          (first .row-keyed-from .ensures (omega (arith, there .if2 .left, counted .count-of .ensures)))
+          (second .row-keyed-from2 .ensures (omega (arith, less, c .count-of2 .ensures))),
     ))
 
 pub glance-at-row-spec : {M : Type 1} → statement M
 glance-at-row-spec =
     tie.close
     (tie.spec
-    read-row-requires
+    see-row-requires
     same-length
     returns
     names-of-requires
     array-copy-out-one
-    add-row-from
-    row-from-requires
+    add-row-keyed-from
+    row-keyed-from-requires
     array-copy-out-other
-    add-row-from-2
-    row-from-requires-2
+    add-row-keyed-from-2
+    row-keyed-from-requires-2
     count-of-requires
     cast-if2
     same-length-2

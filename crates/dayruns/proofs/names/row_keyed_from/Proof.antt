@@ -4,8 +4,8 @@ use native.Mathlib.Omega.{arith}
 use Rattle.dayformat.proofs.Small.{rows-small}
 use Rattle.dayruns.proofs.Finding.{row-inside, row-listed}
 use borrow.Author.Needs.{needs}
-use Rattle.dayruns.proofs.names.row_from.Statement.{statement}
-use Rattle.dayruns.proofs.names.row_from.Tie as tie
+use Rattle.dayruns.proofs.names.row_keyed_from.Statement.{statement}
+use Rattle.dayruns.proofs.names.row_keyed_from.Tie as tie
 
 abbrev Inv-loop : tie.InvT-loop
 Inv-loop numbers at from form start rows row₀ row = Unit {0}
@@ -75,8 +75,8 @@ loop-again c = tt
 returns-2 : tie.Need-returns-2 Inv-loop μ-loop
 returns-2 c = λ l. absurd (omega (arith, l, c .loop-test .left, c .before .before .count-of .ensures))
 
-pub row-from-spec : {M : Type 1} → statement M
-row-from-spec =
+pub row-keyed-from-spec : {M : Type 1} → statement M
+row-keyed-from-spec =
     tie.close
     (tie.spec
     Inv-loop

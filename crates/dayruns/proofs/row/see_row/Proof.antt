@@ -8,8 +8,8 @@ use lib.ListN.{length}
 use Rattle.dayruns.specs.Private.{BodyRoom, Ready}
 use Rattle.dayruns.proofs.RowReading.{ready-room, unread, row-read}
 use borrow.Author.Needs.{needs}
-use Rattle.dayruns.proofs.row.read_row.Statement.{statement}
-use Rattle.dayruns.proofs.row.read_row.Tie as tie
+use Rattle.dayruns.proofs.row.see_row.Statement.{statement}
+use Rattle.dayruns.proofs.row.see_row.Tie as tie
 
 -- the field is there, and so is the place of its row
 ready : (c : tie.Else1)
@@ -65,8 +65,8 @@ returns-2 c =
     row-read _ _ _ _ _ _ (on .before .before .before .before .pre .0) (ready on) (read .read-body .ensures) (next .is-next .ensures)
     (fed .is-fed .ensures) (c .both2 .ensures ∙ rw (c .before .both .ensures))
 
-pub read-row-spec : {M : Type 1} → statement M
-read-row-spec =
+pub see-row-spec : {M : Type 1} → statement M
+see-row-spec =
     tie.close
     (tie.spec
     is-ready-requires

@@ -11,8 +11,8 @@ use Rattle.dayruns.specs.Private.{BodyRoom, Ready}
 use Rattle.dayruns.proofs.BodyReading.{body-read}
 use Rattle.dayruns.proofs.RowReading.{ready-room, unread, row-plain}
 use borrow.Author.Needs.{needs}
-use Rattle.dayruns.proofs.row.read_entry_row.Statement.{statement}
-use Rattle.dayruns.proofs.row.read_entry_row.Tie as tie
+use Rattle.dayruns.proofs.row.see_entry_row.Statement.{statement}
+use Rattle.dayruns.proofs.row.see_entry_row.Tie as tie
 
 -- the field is there, and so is the place of its row
 ready : (c : tie.Else1)
@@ -60,8 +60,8 @@ returns-2 c =
     row-plain _ _ Entry _ _ _ (on .before .before .before .before .pre .0) (ready on)
     (body-read Entry (read .read-entry .ensures) (room on)) (next .is-next .ensures) refl (c .both .ensures)
 
-pub read-entry-row-spec : {M : Type 1} → statement M
-read-entry-row-spec =
+pub see-entry-row-spec : {M : Type 1} → statement M
+see-entry-row-spec =
     tie.close
     (tie.spec
     is-ready-requires
