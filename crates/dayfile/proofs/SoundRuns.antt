@@ -71,7 +71,8 @@ module _ (F : Fields) (known : List ℕ) (start : length known ≡ table-start (
     passes-all test = passes-same test (F .source) (F .tag) (F .counts) counts (read (suc row)) (col numbers) row earlier alike
 
 pub run-passes : (F : Fields) (known : List ℕ) → length known ≡ table-start (F .counts) (F .tag) → (numbers : List ℕ) (counts : Counts)
-    → Agree (table-place (F .tag)) (F .counts) counts → Leads (known ++ rows-of F (run-rows F (λ many. col (known ++ rows-of F many)))) numbers
+    → Agree (table-place (F .tag)) (F .counts) counts
+    → Leads (known ++ rows-of F (run-rows F (λ many. col (known ++ rows-of F many)))) numbers
     → (test : Test) (row : ℕ) → row < run-rows F (λ many. col (known ++ rows-of F many))
     → passes test (F .source) counts (col numbers) (F .tag) row ≡ true
 run-passes F known start numbers counts earlier leads test row l =

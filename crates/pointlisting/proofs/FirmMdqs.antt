@@ -45,8 +45,8 @@ module _ (day : Day) (numbers : List ℕ) (S : Sound day numbers) where
       let at = row-start (day .counts) Entry row in
       let kept = both (rises (day .counts) (col numbers) Entry row) (named (day .counts) (col numbers) Entry at)
       (S .passes Entry refl Test.Key row l) in
-      let point = both (lists (day .counts) (col numbers) Point (at + 0)) (cond (lists (day .counts) (col numbers) Shipper (at + 2)) true false)
-      (kept .1) in
+      let point = both (lists (day .counts) (col numbers) Point (at + 0))
+      (cond (lists (day .counts) (col numbers) Shipper (at + 2)) true false) (kept .1) in
       both (lists (day .counts) (col numbers) Shipper (at + 2)) true (point .1) .0
 
   shipper-listed : (row : ℕ) → row < count (day .counts) Entry

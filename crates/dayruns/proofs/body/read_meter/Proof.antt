@@ -28,8 +28,9 @@ read-kind-requires-4 c κs =
     let three = c .before .before .before in
     let two = three .before .before .before .before in
     let one = two .before .before .before .before in
-    kind-room (kinds-none _ _ _ followed-by one .read-kind .ensures followed-by two .read-kind2 .ensures followed-by three .read-kind3 .ensures) Meter _ _ refl
-    (one .before .before .before .before .pre)
+    kind-room
+    (kinds-none _ _ _ followed-by one .read-kind .ensures followed-by two .read-kind2 .ensures followed-by three .read-kind3 .ensures)
+    Meter _ _ refl (one .before .before .before .before .pre)
 
 read-kind-requires-5 : tie.Need-read-kind-requires-5
 read-kind-requires-5 c κs =
