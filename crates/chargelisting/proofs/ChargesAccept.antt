@@ -7,11 +7,12 @@ use Rattle.units.specs.declared.refusal.Check.{Check}
 use Rattle.units.specs.Bound.{most-rate}
 use Rattle.units.proofs.Checks.{accepts-both, accepts-kept}
 use Rattle.tariff.specs.Charges.{overrun-check}
-use Rattle.overruns.specs.Day.{ShipperDay, day-answer, day-verdict}
-use Rattle.overruns.proofs.Promises.{day-kept}
+use Rattle.overruns.specs.Day.{ShipperDay, day-verdict}
+use Rattle.overruns.specs.Excused.{Excused, excused-day-answer}
+use Rattle.overruns.proofs.Promises.{excused-day-kept}
 
-pub charges-accept : (rate : Rate) (D : ShipperDay) → rate .0 ≤ most-rate
-    → overrun-check rate (day-verdict (day-answer D) .figures .greatest) ≡ Check.Accepted
+pub charges-accept : (rate : Rate) (D : ShipperDay) (E : Excused) → rate .0 ≤ most-rate
+    → overrun-check rate (day-verdict (excused-day-answer D E) .figures .greatest) ≡ Check.Accepted
 unfolding overrun-check
-charges-accept rate D l =
-    accepts-both (accepts-both refl (accepts-kept 3 (le-leb _ _ l))) (accepts-kept 3 (le-leb _ _ (day-kept D refl .chargeable)))
+charges-accept rate D E l =
+    accepts-both (accepts-both refl (accepts-kept 3 (le-leb _ _ l))) (accepts-kept 3 (le-leb _ _ (excused-day-kept D E refl .chargeable)))

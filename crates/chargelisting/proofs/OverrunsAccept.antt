@@ -1,33 +1,27 @@
 -- What the reader accepts, a shipper's overruns accept.
 use mathlib.Core.Path.{_≡_, refl, ap}
-use mathlib.Core.Bool.{true, false, cond}
 use mathlib.Core.List.{List, [], _∷_}
 use Prim.Native.Nat.{ℕ, _+_, _≤_, _<_}
-use native.Mathlib.Nat.{le-refl}
 use native.Mathlib.Omega.{arith}
-use borrow.Author.Tests.{le-leb, lt-ltb}
-use lib.Dec.{leb, ltb}
+use borrow.Author.Tests.{le-leb}
+use lib.Dec.{leb}
 use Rattle.columns.specs.Column.{col, listed}
 use Rattle.columns.proofs.Lists.{length-listed, col-listed}
 use Rattle.units.specs.declared.refusal.Check.{Check}
 use Rattle.units.specs.Bound.{most-gigajoules, most-hour, most-backhaul}
 use Rattle.units.specs.Refusals.{within, keep}
-use Rattle.units.proofs.Checks.{accepts-both, accepts-kept, accepts-clear, accepts-within}
+use Rattle.units.proofs.Checks.{accepts-both, accepts-kept, accepts-within}
 use Rattle.metered.specs.Singles.{mdqs-check, side-check, sides-check}
 use Rattle.metered.specs.Hours.{bare-hours, hours-check}
 use Rattle.dayformat.specs.declared.day.Day.{Day}
 use Rattle.dayformat.specs.declared.body.Column.{Column}
 use Rattle.dayformat.specs.declared.form.Tag.the-variants.{Meter}
-use Rattle.dayformat.specs.Format.{_of_, name, gigajoules, hour, backhaul, body, column-in, form}
-use Rattle.dayformat.specs.Layout.{count, row-start}
+use Rattle.dayformat.specs.Format.{_of_, name, gigajoules, hour, backhaul, body, column-in}
+use Rattle.dayformat.specs.Layout.{count}
 use Rattle.dayformat.proofs.Bodies.{among}
 use Rattle.overruns.specs.Day.{day-check}
-use Rattle.dayrows.specs.declared.Test.the-variants as Test
-use Rattle.dayrows.specs.Test.{bounded, passes}
 use Rattle.dayrows.specs.Private.{Sound}
-use Rattle.dayrows.proofs.Within.{both}
-use Rattle.dayvalues.specs.Row.{beyond-row, row-check}
-use Rattle.dayvalues.proofs.Sounds.{counted, sound-number}
+use Rattle.dayvalues.proofs.Sounds.{row-accepts, sound-number}
 use Rattle.daymeters.specs.Meter.{meter-check, meter-at}
 use Rattle.daymeters.specs.Figures.{figures-of, meter-where, meter-verdict, meter-figures}
 use Rattle.daymeters.specs.Hours.{hours-from, megajoules}
@@ -43,19 +37,8 @@ module _ (day : Day) (numbers : List ℕ) (S : Sound day numbers) (row : ℕ) (l
   figure place = meter-at (day .counts) (col numbers) row place
 
   -- the row may be had
-  row-bounded : bounded (col numbers) Meter (row-start (day .counts) Meter row) ≡ true
-  unfolding passes
-  row-bounded =
-      let at = row-start (day .counts) Meter row in
-      let kept = both (ltb row (form Meter .most)) (cond (bounded (col numbers) Meter at) true false)
-      (S .passes Meter refl Test.Bounds row l) in
-      both (bounded (col numbers) Meter at) true (kept .1) .0
-
   pub meter-accepts : meter-check (day .counts) numbers row ≡ Check.Accepted
-  unfolding row-check beyond-row
-  meter-accepts =
-      accepts-both (accepts-both (counted day numbers S) (accepts-kept 3 (lt-ltb row _ l)))
-      (accepts-clear _ _ _ (rw row-bounded (le-refl (count (day .counts) Meter))))
+  meter-accepts = row-accepts day numbers S Meter refl row l
 
   pub figures-had : meter-figures (day .counts) numbers row ≡ figures-of (day .counts) (col numbers) row
   figures-had = ap (λ found. meter-verdict (meter-where found (figures-of (day .counts) (col numbers) row)) .figures) meter-accepts
@@ -83,7 +66,7 @@ module _ (day : Day) (numbers : List ℕ) (S : Sound day numbers) (row : ℕ) (l
       most place (omega (arith, few)) (among (1 of name ∷ 2 of gigajoules ∷ []) (59 of hour) _ place some few)
 
   hours-within : (at many : ℕ) → 3 ≤ at → at + many ≤ 62
-      → within most-hour (bare-hours (megajoules (hours-from (day .counts) (col numbers) row at many))) ≡ Check.Accepted
+      → within most-hour (bare-hours (megajoules (hours-from (day .counts) (col numbers) Meter row at many))) ≡ Check.Accepted
   hours-within at many some few =
       rw same-figures
       (accepts-within most-hour (listed many (λ hour. figure (at + hour)))

@@ -21,8 +21,9 @@ use Rattle.dayformat.specs.declared.day.Day.{Day}
 use Rattle.dayformat.specs.declared.form.Tag.the-variants.{Meter}
 use Rattle.dayformat.specs.Format.{column-in}
 use Rattle.dayformat.specs.Layout.{count}
-use Rattle.overruns.specs.Day.{ShipperDay, day-answer, day-verdict}
-use Rattle.overruns.proofs.Promises.{day-kept}
+use Rattle.overruns.specs.Day.{ShipperDay, day-verdict}
+use Rattle.overruns.specs.Excused.{Excused, excused-day-answer}
+use Rattle.overruns.proofs.Promises.{excused-day-kept}
 use Rattle.dayrows.specs.Private.{Sound}
 use Rattle.dayvalues.proofs.Sounds.{sound-number}
 use Rattle.daymeters.specs.Figures.{meter-figures}
@@ -30,7 +31,7 @@ use Rattle.dayruns.proofs.Ending.{faultless}
 use Rattle.dayfile.specs.File.{tables, walked}
 use Rattle.dayfile.specs.Answer.{day-of}
 use Rattle.dayfile.proofs.FileAgain.{day-number, read-sound}
-use Rattle.chargelisting.specs.MeterDay.{shipper-day}
+use Rattle.chargelisting.specs.MeterDay.{shipper-day, shipper-excused}
 use Rattle.chargelisting.specs.ChargesText.{rate-word, head-line, charge-figures, charges-text, charges-check, charges-listing}
 use Rattle.chargelisting.proofs.OverrunsAccept.{figures-had}
 use Rattle.chargelisting.proofs.ChargesAccept.{charges-accept}
@@ -64,9 +65,9 @@ line-most shipper hourly twelve-hourly receipt delivery greatest cents s h t r d
     (figure-within 10 greatest _ (omega arith) (figure-within 12 cents _ (omega arith) line-none))))))
 
 module _ (rate : Rate) (kept-rate : rate .0 ≤ most-rate) where
-  charge-small : (D : ShipperDay)
-      → charge-verdict (overrun-charge rate (day-verdict (day-answer D) .figures .greatest)) .figures .0 ≤ most-cents
-  charge-small D = rw (charges-accept rate D kept-rate) (cents-most rate _ kept-rate (day-kept D refl .chargeable))
+  charge-small : (D : ShipperDay) (E : Excused)
+      → charge-verdict (overrun-charge rate (day-verdict (excused-day-answer D E) .figures .greatest)) .figures .0 ≤ most-cents
+  charge-small D E = rw (charges-accept rate D E kept-rate) (cents-most rate _ kept-rate (excused-day-kept D E refl .chargeable))
 
   module _ (day : Day) (numbers : List ℕ) (S : Sound day numbers) where
     shipper-small : (row : ℕ) → row < count (day .counts) Meter → meter-figures (day .counts) numbers row .shipper ≤ 65_535
@@ -79,14 +80,15 @@ module _ (rate : Rate) (kept-rate : rate .0 ≤ most-rate) where
     row-most : (row : ℕ) → row < count (day .counts) Meter → length (row-line row) ≤ 81
     row-most row l =
         let D = shipper-day (day .counts) numbers row in
-        let K = day-kept D refl in
+        let E = shipper-excused (day .counts) numbers row in
+        let K = excused-day-kept D E refl in
         line-most _ _ _ _ _ _ _ (shipper-small row l)
         (le-trans (K .greatest .first) (K .chargeable))
         (le-trans (K .greatest .second) (K .chargeable))
         (le-trans (K .greatest .third) (K .chargeable))
         (le-trans (K .greatest .fourth) (K .chargeable))
         (K .chargeable)
-        (charge-small D)
+        (charge-small D E)
 
     day-most : day .head .day ≤ 4_294_967_295 → length (charges-text rate day numbers) ≤ 8_192
     day-most d =

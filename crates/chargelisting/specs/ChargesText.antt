@@ -15,12 +15,13 @@ use Rattle.dayformat.specs.declared.form.Tag.the-variants.{Meter}
 use Rattle.dayformat.specs.declared.layout.Counts.{Counts}
 use Rattle.dayformat.specs.Layout.{count}
 use Rattle.overruns.specs.declared.day.Overruns.{Overruns}
-use Rattle.overruns.specs.Day.{day-answer, day-verdict}
+use Rattle.overruns.specs.Day.{day-verdict}
+use Rattle.overruns.specs.Excused.{excused-day-answer}
 use Rattle.daymeters.specs.Figures.{meter-figures}
 use Rattle.dayruns.specs.Walk.{file-check}
 use Rattle.dayfile.specs.File.{tables, walked}
 use Rattle.dayfile.specs.Answer.{day-of}
-use Rattle.chargelisting.specs.MeterDay.{shipper-day}
+use Rattle.chargelisting.specs.MeterDay.{shipper-day, shipper-excused}
 
 -- RATE
 abbrev pub rate-word : List ℕ
@@ -29,14 +30,10 @@ rate-word = 82 ∷ 65 ∷ 84 ∷ 69 ∷ []
 abbrev pub head-line : ℕ → Rate → List ℕ
 head-line day rate = line (day-word ∷ decimal day ∷ rate-word ∷ decimal (rate .0) ∷ [])
 
--- ---- of a row of the meter table: overruns in MJ, in 01's order; cents at the rate
-abbrev pub overruns-of : Counts → List ℕ → ℕ → Overruns
-overruns-of counts numbers row = day-verdict (day-answer (shipper-day counts numbers row)) .figures
-
-abbrev pub charge-figures : Rate → Counts → List ℕ → ℕ → List ℕ
-charge-figures rate counts numbers row =
-    let over = overruns-of counts numbers row in
-    meter-figures counts numbers row .shipper
+-- the figures of a line: overruns in MJ, in 01's order; cents at the rate
+abbrev pub line-figures : Rate → ℕ → Overruns → List ℕ
+line-figures rate shipper over =
+    shipper
     ∷ over .hourly .0
     ∷ over .«twelve_hourly» .0
     ∷ over .«daily_receipt» .0
@@ -44,6 +41,15 @@ charge-figures rate counts numbers row =
     ∷ over .greatest .0
     ∷ charge-verdict (overrun-charge rate (over .greatest)) .figures .0
     ∷ []
+
+-- ---- of a row of the meter table
+abbrev pub overruns-of : Counts → List ℕ → ℕ → Overruns
+overruns-of counts numbers row =
+    day-verdict (excused-day-answer (shipper-day counts numbers row) (shipper-excused counts numbers row)) .figures
+
+abbrev pub charge-figures : Rate → Counts → List ℕ → ℕ → List ℕ
+charge-figures rate counts numbers row =
+    line-figures rate (meter-figures counts numbers row .shipper) (overruns-of counts numbers row)
 
 -- a line for each of the first so many rows
 abbrev pub meter-lines : Rate → Counts → List ℕ → ℕ → List ℕ

@@ -1,2 +1,3 @@
 pub mod ChargesText
 pub mod MeterDay
+pub mod Former

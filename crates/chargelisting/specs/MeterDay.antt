@@ -1,10 +1,13 @@
--- What a shipper's overruns are worked out from: a row of the meter table.
+-- What a shipper's overruns are worked out from: a row of the meter table, and that of its shipper in the table of excused gas.
 use mathlib.Core.List.{List}
 use Prim.Native.Nat.{ℕ}
+use Rattle.columns.specs.Column.{col}
 use Rattle.dayformat.specs.declared.layout.Counts.{Counts}
 use Rattle.overruns.specs.Day.{ShipperDay}
+use Rattle.overruns.specs.Excused.{Excused}
 use Rattle.daymeters.specs.Figures.{meter-figures}
 use Rattle.daymeters.specs.Hours.{meter-yesterday, meter-hours}
+use Rattle.daymeters.specs.Excused.{excused-row, excused-yesterday, excused-hours}
 
 abbrev pub shipper-day : Counts → List ℕ → ℕ → ShipperDay
 shipper-day counts numbers row =
@@ -16,3 +19,13 @@ shipper-day counts numbers row =
       receipt = meter-figures counts numbers row .receipt;
       delivery = meter-figures counts numbers row .delivery;
     }
+
+-- what a row of the other table excuses
+abbrev pub row-excused : Counts → List ℕ → ℕ → Excused
+row-excused counts numbers row =
+    record { yesterday = excused-yesterday counts numbers row; hours = excused-hours counts numbers row }
+
+-- C-14: a shipper without a row there has zeros
+abbrev pub shipper-excused : Counts → List ℕ → ℕ → Excused
+shipper-excused counts numbers row =
+    row-excused counts numbers (excused-row counts (col numbers) (meter-figures counts numbers row .shipper))

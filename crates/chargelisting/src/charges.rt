@@ -2,6 +2,9 @@
 use dayformat::Counts;
 use daymeters::MeterFigures;
 use daymeters::MeterRow;
+use daymeters::excused_hours;
+use daymeters::excused_row;
+use daymeters::excused_yesterday;
 use daymeters::meter_figures;
 use daymeters::meter_hours;
 use daymeters::meter_yesterday;
@@ -59,6 +62,7 @@ fn overruns_of(counts: Counts, numbers: &[usize], row: u32) -> Overruns
     let figures = figures_of(counts, numbers, row);
     let yesterday = meter_yesterday(counts, numbers, row);
     let hours = meter_hours(counts, numbers, row);
+    let excused = excused_row(counts, numbers, figures.shipper);
     let day = overruns_of_day(
         figures.p,
         figures.m,
@@ -66,6 +70,8 @@ fn overruns_of(counts: Counts, numbers: &[usize], row: u32) -> Overruns
         hours,
         figures.receipt,
         figures.delivery,
+        excused_yesterday(counts, numbers, excused),
+        excused_hours(counts, numbers, excused),
     );
     match day {
         DayOverruns::Refused(_) => NO_OVERRUNS,

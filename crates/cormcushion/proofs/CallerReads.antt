@@ -1,6 +1,6 @@
 -- For every input, what a caller reads out of each function's number is the answer of the routine that it calls: the routine's tests
 -- decide that answer, its places lie within a full day's file, among 64 rows, 32 days or 24 hours, and its figures are bounded.
-use mathlib.Core.Path.{_≡_, refl, _∙_}
+use mathlib.Core.Path.{_≡_, refl, subst, _∙_}
 use mathlib.Core.List.{List}
 use Prim.Native.Nat.{ℕ, _≤_}
 use native.Mathlib.Omega.{arith}
@@ -9,6 +9,7 @@ use Rattle.columns.specs.Column.{col}
 use Rattle.sharing.proofs.Levels.{level-is}
 use Rattle.units.specs.declared.refusal.Check.{Check}
 use Rattle.units.specs.declared.refusal.Check.the-variants.{Accepted}
+use Rattle.units.specs.Refusals.{_then_}
 use Rattle.units.specs.Verdict.{Decided, of-check as check-verdict}
 use Rattle.units.proofs.Checks.{both-accepted}
 use Rattle.units.proofs.Places.{PlacedTo}
@@ -27,6 +28,8 @@ use Rattle.readings.proofs.Decided.{readings-placed, metered-decided}
 use Rattle.daytable.specs.Table.{Table}
 use Rattle.daytable.proofs.Accepting.{accepting}
 use Rattle.daytable.proofs.Decided.{table-placed}
+use Rattle.overruns.specs.Excused.{Excused, nothing-excused}
+use Rattle.overruns.proofs.Nothing.{check-nothing, overruns-nothing, day-nothing}
 use Rattle.dayformat.specs.Layout.{numbers-in}
 use Rattle.dayshares.specs.Answer.{shares-answer, shares-verdict}
 use Rattle.dayshares.proofs.Decided.{day-decided}
@@ -47,7 +50,8 @@ use Rattle.pointlisting.proofs.Sizes as points-sizes
 use Rattle.cormcushion.specs.Packed.{packed-check, Unpacks}
 use Rattle.cormcushion.specs.Answers.{of-listing, of-reading, of-round, of-shares}
 use Rattle.cormcushion.specs.Lent.{ListingPacked, ReadingPacked, RoundPacked, SharesPacked}
-use Rattle.cormcushion.specs.Meter.{shipper-day, charge-check, charge-cents, ChargePacked}
+use Rattle.cormcushion.specs.Meter.{shipper-day, rate-check, cents-for, charge-check, charge-cents, ChargePacked}
+use Rattle.cormcushion.specs.Meter.{excused-charge-check, excused-charge-cents, ExcusedChargePacked}
 use Rattle.cormcushion.specs.DayGas.{of-metered, DayGasPacked}
 use Rattle.cormcushion.proofs.ChargeTests.{charge-numbered, charge-placed, charge-packs, charge-most}
 use Rattle.cormcushion.proofs.Unpacking.{most-figure, found-reads, answer-reads}
@@ -119,15 +123,30 @@ month-statement-reads numbers L =
     (month-decided numbers (L .answers))
 
 -- ---- a shipper's day: the charge in cents
+pub excused-charge-reads : (rate p m : ℕ) (yesterday delivered received schedules metered : List ℕ) (E : Excused)
+    {lent after : List ℕ} {packed : ℕ}
+    → ExcusedChargePacked rate (shipper-day p m yesterday delivered received schedules metered) E lent packed after
+    → Unpacks packed (check-verdict (excused-charge-check rate (shipper-day p m yesterday delivered received schedules metered) E))
+    (λ none. excused-charge-cents rate (shipper-day p m yesterday delivered received schedules metered) E)
+excused-charge-reads rate p m yesterday delivered received schedules metered E C =
+    let D = shipper-day p m yesterday delivered received schedules metered in
+    found-reads (checked (charge-numbered rate p m yesterday delivered received schedules metered E) refl)
+    (λ none. excused-charge-cents rate D E)
+    (charge-placed rate p m yesterday delivered received schedules metered E) (omega arith)
+    (λ accepted. omega (arith, charge-most rate D E accepted)) (C .answers ∙ charge-packs rate D E)
+
+-- with nothing excused
 pub charge-reads : (rate p m : ℕ) (yesterday delivered received schedules metered : List ℕ) {lent after : List ℕ} {packed : ℕ}
     → ChargePacked rate (shipper-day p m yesterday delivered received schedules metered) lent packed after
     → Unpacks packed (check-verdict (charge-check rate (shipper-day p m yesterday delivered received schedules metered)))
     (λ none. charge-cents rate (shipper-day p m yesterday delivered received schedules metered))
-charge-reads rate p m yesterday delivered received schedules metered C =
+charge-reads rate p m yesterday delivered received schedules metered {lent} {after} {packed} C =
     let D = shipper-day p m yesterday delivered received schedules metered in
-    found-reads (checked (charge-numbered rate p m yesterday delivered received schedules metered) refl) (λ none. charge-cents rate D)
-    (charge-placed rate p m yesterday delivered received schedules metered) (omega arith)
-    (λ accepted. omega (arith, charge-most rate D accepted)) (C .answers ∙ charge-packs rate D)
+    let none : ExcusedChargePacked rate D nothing-excused lent packed after =
+    record { answers = rw (day-nothing D) (C .answers); leaves = rw (day-nothing D) (C .leaves) } in
+    subst (λ found. Unpacks packed (check-verdict (rate-check rate then found)) (λ none. charge-cents rate D)) (check-nothing D)
+    (subst (λ over. Unpacks packed (check-verdict (excused-charge-check rate D nothing-excused)) (λ none. cents-for rate over))
+    (overruns-nothing D) (excused-charge-reads rate p m yesterday delivered received schedules metered nothing-excused none))
 
 -- ---- a day of readings: the sum of its energies
 pub gas-reads : {readings : List HourReading} {energies volumes energies-after volumes-after : List ℕ}

@@ -10,12 +10,13 @@ use Rattle.dayfile.specs.declared.reader.Reading.{Reading}
 use Rattle.dayfile.specs.declared.reader.Reading.the-variants.{Refused, Read}
 use Rattle.dayfile.specs.File.{walked}
 use Rattle.dayfile.specs.Answer.{ReadingAnswered, reading-check}
+use Rattle.dayfile.proofs.Reaching.{full-room}
 use Rattle.dayfile.proofs.Told.{told}
 use Rattle.listings.proofs.Listing.{file-refused}
 use Rattle.cormcushion.specs.Packed.{packed-check}
 use Rattle.cormcushion.specs.Answers.{of-reading}
 
-module _ (file lent after : List ℕ) (room : length lent ≡ 6_880) where
+module _ (file lent after : List ℕ) (room : length lent ≡ full-room) where
   pub checked : (reading : Reading) → ReadingAnswered file lent after reading
       → of-reading reading ≡ packed-check (file-check (walked file)) (numbers-in (walked file .counts))
   unfolding reading-check

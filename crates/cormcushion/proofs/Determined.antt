@@ -11,12 +11,12 @@ use Rattle.metered.specs.Hours.{bare-hours}
 use Rattle.readings.specs.declared.hour.HourReading.{HourReading}
 use Rattle.readings.specs.Day.{bare-volumes}
 use Rattle.daytable.specs.Table.{Table}
-use Rattle.overruns.specs.Day.{ShipperDay}
+use Rattle.overruns.specs.declared.day.DayOverruns.{DayOverruns}
 use Rattle.dayshares.proofs.Determined.{day-determined}
 use Rattle.dayfile.proofs.Determined.{reading-determined}
 use Rattle.cormcushion.specs.Answers.{of-listing, of-reading, of-round, of-shares, with-day, with-levels}
 use Rattle.cormcushion.specs.Lent.{ListingPacked, ReadingPacked, RoundPacked, SharesPacked}
-use Rattle.cormcushion.specs.Meter.{ChargePacked}
+use Rattle.cormcushion.specs.Meter.{PricePacked}
 use Rattle.cormcushion.specs.DayGas.{of-metered, DayGasPacked}
 
 -- what is computed from equal answers is equal
@@ -56,8 +56,8 @@ packed-shares-determined {levels = levels} a b =
       same (λ day. with-levels day levels) (a .leaves-levels) (b .leaves-levels) (is .0),
     )
 
-pub charge-determined : {rate : ℕ} {D : ShipperDay} {lent l₁ l₂ : List ℕ} {p₁ p₂ : ℕ}
-    → ChargePacked rate D lent p₁ l₁ → ChargePacked rate D lent p₂ l₂ → (p₁ ≡ p₂) × (l₁ ≡ l₂)
+pub charge-determined : {rate : ℕ} {over : DayOverruns} {lent l₁ l₂ : List ℕ} {p₁ p₂ : ℕ}
+    → PricePacked rate over lent p₁ l₁ → PricePacked rate over lent p₂ l₂ → (p₁ ≡ p₂) × (l₁ ≡ l₂)
 charge-determined a b = (determined (a .answers) (b .answers), determined (a .leaves) (b .leaves))
 
 pub gas-determined : {readings : List HourReading} {energies volumes e₁ e₂ v₁ v₂ : List ℕ} {volume p₁ p₂ s₁ s₂ : ℕ}

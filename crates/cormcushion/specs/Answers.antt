@@ -33,7 +33,7 @@ of-shares (shares.Day.Refused refusal) = refused refusal
 of-shares (shares.Day.Shared day) = accepted (day .left .0)
 
 -- ---- the lists
--- day, free flow and compressor capacity; then how many shippers, points, entries and meters
+-- day, free flow and compressor capacity; then how many shippers, points, entries, meters and fields of excused gas
 abbrev pub day-figures : Day → List ℕ
 day-figures day =
     day .head .day
@@ -43,6 +43,7 @@ day-figures day =
     ∷ day .counts .points
     ∷ day .counts .entries
     ∷ day .counts .meters
+    ∷ day .counts .excused
     ∷ []
 
 abbrev pub with-day : Reading → List ℕ → List ℕ

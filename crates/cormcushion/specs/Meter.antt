@@ -15,6 +15,7 @@ use Rattle.metered.specs.declared.Side.{Side}
 use Rattle.overruns.specs.declared.day.Overruns.{Overruns}
 use Rattle.overruns.specs.declared.day.DayOverruns.{DayOverruns}
 use Rattle.overruns.specs.Day.{ShipperDay, day-overruns, day-check, day-answer}
+use Rattle.overruns.specs.Excused.{Excused, excused-day-overruns, excused-day-check, excused-day-answer}
 use Rattle.daymeters.specs.Hours.{megajoules}
 use Rattle.cormcushion.specs.Packed.{accepted, refused}
 
@@ -79,14 +80,35 @@ abbrev pub of-rated : Check → ℕ → ℕ
 of-rated Check.Accepted next = next
 of-rated (Check.Refused refusal) next = refused refusal
 
--- all tests of the call, and the charge for the greatest overrun in cents
+-- the statement of a call, whatever its day's overruns: the charge, packed, and the lent list afterwards
+pub record PricePacked (rate : ℕ) (over : DayOverruns) (lent : List ℕ) (packed : ℕ) (after : List ℕ) : Type 0 where
+  pub answers : packed ≡ of-rated (rate-check rate) (of-overruns rate over)
+  pub leaves : after ≡ accepted-or (rate-check rate) (with-overruns rate over lent) lent
+
+-- the charge for the greatest overrun in cents
+abbrev pub cents-for : ℕ → Overruns → ℕ
+cents-for rate over = overrun-cents (rate-of rate) (over .greatest) .0
+
+-- ---- `cormcushion_overruns`: its statement, all its tests, its charge
+abbrev pub ChargePacked : ℕ → ShipperDay → List ℕ → ℕ → List ℕ → Type 0
+ChargePacked rate D = PricePacked rate (day-answer D)
+
 abbrev pub charge-check : ℕ → ShipperDay → Check
 charge-check rate D = rate-check rate then day-check D
 
 abbrev pub charge-cents : ℕ → ShipperDay → ℕ
-charge-cents rate D = overrun-cents (rate-of rate) (day-overruns D .greatest) .0
+charge-cents rate D = cents-for rate (day-overruns D)
 
--- the statement of `cormcushion_overruns`
-pub record ChargePacked (rate : ℕ) (D : ShipperDay) (lent : List ℕ) (packed : ℕ) (after : List ℕ) : Type 0 where
-  pub answers : packed ≡ of-rated (rate-check rate) (of-overruns rate (day-answer D))
-  pub leaves : after ≡ accepted-or (rate-check rate) (with-overruns rate (day-answer D) lent) lent
+-- ---- `cormcushion_overruns_excused`: the same with hours excused
+abbrev pub excused-of : List ℕ → List ℕ → List ℕ → Excused
+excused-of yesterday delivered received =
+    record { yesterday = hours-of 11 yesterday; hours = hours-of 24 delivered ∷ hours-of 24 received ∷ [] }
+
+abbrev pub ExcusedChargePacked : ℕ → ShipperDay → Excused → List ℕ → ℕ → List ℕ → Type 0
+ExcusedChargePacked rate D E = PricePacked rate (excused-day-answer D E)
+
+abbrev pub excused-charge-check : ℕ → ShipperDay → Excused → Check
+excused-charge-check rate D E = rate-check rate then excused-day-check D E
+
+abbrev pub excused-charge-cents : ℕ → ShipperDay → Excused → ℕ
+excused-charge-cents rate D E = cents-for rate (excused-day-overruns D E)

@@ -25,7 +25,7 @@ pub extern "C" fn cormcushion_check_day(file: &[u8]) -> u64
 #[no_mangle]
 pub extern "C" fn cormcushion_read_day(
     file: &[u8],
-    day: &mut [u32; 7],
+    day: &mut [u32; 8],
     numbers: &mut [usize],
 ) -> u64
     ensures { λ r. ⌜ ReadingPacked (now (file .entry)) (now (day .entry)) (now (numbers .entry)) r
@@ -36,8 +36,8 @@ pub extern "C" fn cormcushion_read_day(
     of_reading(reading)
 }
 
-// Day, free flow and compressor capacity; then how many shippers, points, entries and meters.
-fn figures_of(day: Day) -> [u32; 7]
+// Day, free flow and compressor capacity; then how many shippers, points, entries, meters and fields of excused gas.
+fn figures_of(day: Day) -> [u32; 8]
     ensures { λ r. ⌜ r ≡ day-figures day ⌝ }
 {
     let head = day.head;
@@ -50,11 +50,12 @@ fn figures_of(day: Day) -> [u32; 7]
         counts.points,
         counts.entries,
         counts.meters,
+        counts.excused,
     ]
 }
 
 // A refusal leaves them as they were.
-fn put_day(reading: Reading, lent: &mut [u32; 7])
+fn put_day(reading: Reading, lent: &mut [u32; 8])
     ensures { λ _. ⌜ now (lent .exit) ≡ with-day reading (now (lent .entry)) ⌝ }
 {
     match reading {

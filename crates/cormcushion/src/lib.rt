@@ -14,6 +14,7 @@ pub use day::cormcushion_check_day;
 pub use day::cormcushion_read_day;
 pub use daygas::cormcushion_readings;
 pub use meter::cormcushion_overruns;
+pub use meter::cormcushion_overruns_excused;
 pub use texts::cormcushion_list_charges;
 pub use texts::cormcushion_list_points;
 pub use texts::cormcushion_list_shares;

@@ -16,10 +16,11 @@ use units::Megajoules;
 use units::Rate;
 ghost use mathlib.Core.Path.{_≡_};
 ghost use Prim.Native.Nat.{_≤_};
-ghost use Rattle.overruns.specs.Day.{day-answer};
+ghost use Rattle.overruns.specs.Excused.{excused-day-answer};
 ghost use Rattle.tariff.specs.Charges.{overrun-charge};
 ghost use Rattle.cormcushion.specs.Meter.{side-of, shipper-day, overrun-figures, rate-of};
-ghost use Rattle.cormcushion.specs.Meter.{of-charge, with-charge, of-overruns, with-overruns, ChargePacked};
+ghost use Rattle.cormcushion.specs.Meter.{of-charge, with-charge, of-overruns, with-overruns, excused-of};
+ghost use Rattle.cormcushion.specs.Meter.{ChargePacked, ExcusedChargePacked};
 
 // The charge in cents for the greatest of a day's four overruns, with the four and the greatest in `lent`.
 #[no_mangle]
@@ -39,11 +40,63 @@ pub extern "C" fn cormcushion_overruns(
         (now (schedules .entry)) (now (metered .entry)))
         (now (lent .entry)) r (now (lent .exit)) ⌝ }
 {
+    cormcushion_overruns_excused(
+        rate,
+        p,
+        m,
+        yesterday,
+        delivered,
+        received,
+        schedules,
+        metered,
+        &[0; 11],
+        &[0; 24],
+        &[0; 24],
+        lent,
+    )
+}
+
+// The same with hours excused (cl. 5.4): yesterday's, delivered, received.
+#[no_mangle]
+pub extern "C" fn cormcushion_overruns_excused(
+    rate: u32,
+    p: u32,
+    m: u32,
+    yesterday: &[u64; 11],
+    delivered: &[u64; 24],
+    received: &[u64; 24],
+    schedules: &[u32; 4],
+    metered: &[u64; 2],
+    excused_yesterday: &[u64; 11],
+    excused_delivered: &[u64; 24],
+    excused_received: &[u64; 24],
+    lent: &mut [u64; 5],
+) -> u64
+    ensures { λ r. ⌜ ExcusedChargePacked rate
+        (shipper-day p m (now (yesterday .entry)) (now (delivered .entry)) (now (received .entry))
+        (now (schedules .entry)) (now (metered .entry)))
+        (excused-of (now («excused_yesterday» .entry)) (now («excused_delivered» .entry)) (now («excused_received» .entry)))
+        (now (lent .entry)) r (now (lent .exit)) ⌝ }
+{
     let found = Check::Accepted.keep(rate <= MOST_RATE.0, 3);
     match found {
         Check::Refused(refusal) => refused(refusal),
         Check::Accepted => {
-            let over = overruns_of(p, m, yesterday, delivered, received, schedules, metered);
+            let excused = [
+                hours_of_today(excused_delivered),
+                hours_of_today(excused_received),
+            ];
+            let over = overruns_of(
+                p,
+                m,
+                yesterday,
+                delivered,
+                received,
+                schedules,
+                metered,
+                hours_of_yesterday(excused_yesterday),
+                excused,
+            );
             price_day(rate, over, lent)
         }
     }
@@ -69,10 +122,13 @@ fn overruns_of(
     received: &[u64; 24],
     schedules: &[u32; 4],
     metered: &[u64; 2],
+    excused_yesterday: [Megajoules; 11],
+    excused_hours: [[Megajoules; 24]; 2],
 ) -> DayOverruns
-    ensures { λ r. ⌜ r ≡ day-answer
+    ensures { λ r. ⌜ r ≡ excused-day-answer
         (shipper-day p m (now (yesterday .entry)) (now (delivered .entry)) (now (received .entry))
-        (now (schedules .entry)) (now (metered .entry))) ⌝ }
+        (now (schedules .entry)) (now (metered .entry)))
+        (record { yesterday = «excused_yesterday»; hours = «excused_hours» }) ⌝ }
 {
     let both = [hours_of_today(delivered), hours_of_today(received)];
     overruns_of_day(
@@ -82,6 +138,8 @@ fn overruns_of(
         both,
         side_of(schedules, metered, 0),
         side_of(schedules, metered, 1),
+        excused_yesterday,
+        excused_hours,
     )
 }
 

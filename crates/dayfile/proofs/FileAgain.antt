@@ -93,7 +93,7 @@ module _ (file : List ℕ) where
   sound-head zero sound = sound
   sound-head (suc n) sound = sound-head n (sound-before n sound)
 
-  reread : (n : ℕ) → n ≤ many-tables → tables-to file n .walk .fault ≡ 0 → Reread file n (tables-to file n)
+  pub reread : (n : ℕ) → n ≤ many-tables → tables-to file n .walk .fault ≡ 0 → Reread file n (tables-to file n)
   unfolding tables-to
   reread zero l sound = reread-head file (sound-head 0 sound)
   reread (suc n) l sound = reread-more file n l (tables-to file n) (reread n (omega (arith, l)) (sound-before n sound)) sound

@@ -10,6 +10,7 @@ pub mod FieldsThere
 pub mod Leading
 pub mod Rereading
 pub mod SoundRuns
+pub mod Excusing
 pub mod FileAgain
 pub mod Told
 pub mod Apart

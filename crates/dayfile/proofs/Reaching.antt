@@ -84,9 +84,9 @@ reached-to file (suc n) l =
       few = R .few;
     }
 
--- a head, 64 shippers, 32 points, 512 entries and 64 meters: the file of a full day
+-- a head, 64 shippers, 32 points, 512 entries, 64 meters and what is excused of each: the file of a full day
 abbrev pub most-file : ℕ
-most-file = 25_551
+most-file = 40_975
 
 pub full-day : file-size most-counts ≡ most-file
 unfolding size listed column-in sum
@@ -103,9 +103,13 @@ walked-reached file =
     let R = tables-reached file in
     ended-has (Reached most-file) file (tables file .walk) R (λ number known. record { fault = known; place = R .place; few = R .few })
 
-pub full-numbers : most-numbers ≡ 6_880
+-- and its numbers
+abbrev pub full-room : ℕ
+full-room = 10_720
+
+pub full-numbers : most-numbers ≡ full-room
 unfolding sum
 full-numbers = refl
 
-pub numbers-most : (file : List ℕ) → numbers-in (walked file .counts) ≤ 6_880
+pub numbers-most : (file : List ℕ) → numbers-in (walked file .counts) ≤ full-room
 numbers-most file = omega (arith, full-numbers, few-fit (walked file .counts) (walked-reached file .few))

@@ -11,7 +11,7 @@ use borrow.Author.Tests.{eqb-true, not-false}
 use Rattle.columns.specs.First.{first, first-from}
 use Rattle.columns.proofs.Firsts.{first-passed}
 use Rattle.dayformat.specs.declared.form.Tag.{Tag}
-use Rattle.dayformat.specs.declared.form.Tag.the-variants.{Head, Shipper, Point, Entry, Meter}
+use Rattle.dayformat.specs.declared.form.Tag.the-variants.{Head, Shipper, Point, Entry, Meter, Excused}
 use Rattle.dayformat.specs.Format.{tag-byte, many-tables, tag-at, table-place}
 use Rattle.dayformat.specs.Private.{HasTable}
 
@@ -22,6 +22,7 @@ either Shipper = inr (omega arith, refl)
 either Point = inr (omega arith, refl)
 either Entry = inr (omega arith, refl)
 either Meter = inr (omega arith, refl)
+either Excused = inr (omega arith, refl)
 
 pub inside : (tag : Tag) → table-place tag < many-tables
 inside tag = ⊎-elim (λ is. rw is (omega arith)) (λ t. t .0) (either tag)

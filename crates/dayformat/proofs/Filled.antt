@@ -12,7 +12,8 @@ use Rattle.columns.specs.First.{first-from}
 use Rattle.dayformat.specs.declared.form.Tag.{Tag}
 use Rattle.dayformat.specs.declared.form.Tag.the-variants.{Head}
 use Rattle.dayformat.specs.declared.body.Several.{Several}
-use Rattle.dayformat.specs.Format.{none, _of_, body, _is-a_, names, _for_, mdqs, column-in, filled-up}
+use Rattle.dayformat.specs.declared.rules.Name.{Name}
+use Rattle.dayformat.specs.Format.{none, _of_, body, _is-a_, names, _for_, mdqs, first-name, column-in, filled-up}
 use Rattle.dayformat.proofs.Every.{passes-every}
 
 take-replicate : {X : Type 0} (n m : ℕ) (x : X) → n ≤ m → take n (replicate m x) ≡ replicate n x
@@ -52,6 +53,13 @@ pub mdqs-filled : (tag : Tag) → filled-up 2 (0 for 0) (mdqs tag) ≡ mdqs tag 
 unfolding first-from
 mdqs-filled tag =
     filled-is 2 (0 for 0) (mdqs tag) (leb-true _ _ (passes-every (λ tag. leb (length (mdqs tag)) 2) refl (omega arith) tag))
+
+pub first-filled : (tag : Tag) (past : Name) → getD (filled-up 2 (0 is-a Head) (names tag)) 0 past ≡ first-name tag
+first-filled tag past = by (names tag)
+  where
+    by : (list : List Name) → getD (filled-up 2 (0 is-a Head) list) 0 past ≡ getD list 0 (0 is-a Head)
+    by [] = refl
+    by (name ∷ rest) = refl
 
 -- ---- a kind of which there are no numbers is passed over
 column-nothing : (k place : ℕ) → column-in (replicate k (0 of none)) place ≡ none

@@ -11,7 +11,7 @@ use borrow.Author.Tests.{eq-eqb, ne-eqb}
 use Rattle.columns.specs.Sum.{sum}
 use Rattle.columns.proofs.Sums.{sum-mono, sum-cong, sum-within, sum-rest}
 use Rattle.dayformat.specs.declared.form.Tag.{Tag}
-use Rattle.dayformat.specs.declared.form.Tag.the-variants.{Head, Shipper, Point, Entry, Meter}
+use Rattle.dayformat.specs.declared.form.Tag.the-variants.{Head, Shipper, Point, Entry, Meter, Excused}
 use Rattle.dayformat.specs.declared.layout.Counts.{Counts}
 use Rattle.dayformat.specs.Format.{tag-byte, most, many-tables, tag-at, table-place, form}
 use Rattle.dayformat.specs.Layout.{count, counts-of, no-rows, with-count, most-counts, held, numbers-before, numbers-in, most-numbers, table-start}
@@ -25,6 +25,7 @@ count-made figure Shipper t = refl
 count-made figure Point t = refl
 count-made figure Entry t = refl
 count-made figure Meter t = refl
+count-made figure Excused t = refl
 
 -- counts that agree on every table are the same
 pub agree-all : (c d : Counts) → Agree many-tables c d → c ≡ d

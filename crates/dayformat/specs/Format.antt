@@ -9,12 +9,13 @@ use Rattle.units.specs.Bound.{most-gigajoules, most-hour, most-backhaul}
 use Rattle.bigendian.specs.Number.{value, bytes}
 use Rattle.bigendian.specs.Row.{size, encode}
 use Rattle.dayformat.specs.declared.form.Tag.{Tag}
-use Rattle.dayformat.specs.declared.form.Tag.the-variants.{Head, Shipper, Point, Entry, Meter}
+use Rattle.dayformat.specs.declared.form.Tag.the-variants.{Head, Shipper, Point, Entry, Meter, Excused}
 use Rattle.dayformat.specs.declared.form.Form.{Form}
 use Rattle.dayformat.specs.declared.body.Column.{Column}
 use Rattle.dayformat.specs.declared.body.Several.{Several}
 use Rattle.dayformat.specs.declared.rules.Name.{Name}
 use Rattle.dayformat.specs.declared.rules.Pair.{Pair}
+use Rattle.dayformat.specs.declared.rules.Cap.{Cap}
 
 -- ---- the kinds of number: how many bytes spell it, and its bounds
 abbrev pub none : Column
@@ -28,7 +29,7 @@ side = record { width = 1; low = 0; high = 1 }
 abbrev pub name : Column
 name = record { width = 2; low = 1; high = 65_535 }
 
--- the day number may be any u32
+-- the day number and an excused quantity may be any u32
 abbrev pub any-number : Column
 any-number = record { width = 4; low = 0; high = 4_294_967_295 }
 
@@ -59,6 +60,8 @@ body Point = 1 of side ∷ 1 of name ∷ 1 of hour ∷ []
 body Entry = 1 of side ∷ 2 of name ∷ 1 of hour ∷ []
 -- shipper, P, M, 11 delivered hours of yesterday, 24 delivered, 24 received, four schedules, backhaul metered receipt and delivery
 body Meter = 1 of name ∷ 2 of gigajoules ∷ (11 + 24 + 24) of hour ∷ 4 of gigajoules ∷ 2 of backhaul ∷ []
+-- shipper, what is excused of each of its meter's hours
+body Excused = 1 of name ∷ (11 + 24 + 24) of any-number ∷ []
 
 -- ---- the tag's byte, how many fields there may be, and how many of the first numbers are the key
 abbrev pub tag-byte : Tag → ℕ
@@ -67,6 +70,7 @@ tag-byte Shipper = 2
 tag-byte Point = 3
 tag-byte Entry = 4
 tag-byte Meter = 5
+tag-byte Excused = 9
 
 abbrev pub most : Tag → ℕ
 most Head = 1
@@ -74,6 +78,7 @@ most Shipper = 64
 most Point = 32
 most Entry = 512
 most Meter = 64
+most Excused = 64
 
 abbrev pub key : Tag → ℕ
 key Head = 0
@@ -81,8 +86,9 @@ key Shipper = 1
 key Point = 2
 key Entry = 3
 key Meter = 1
+key Excused = 1
 
--- ---- tags 4 and 5 name only shippers and points listed before: the place of a key in the row, and the tag of the rows that list it
+-- ---- tags 4, 5 and 9 name only what is listed before: the place of a key in the row, and the tag of the rows that list it
 infix 70 _is-a_
 abbrev pub _is-a_ : ℕ → Tag → Name
 place is-a tag = record { place = place; tag = tag }
@@ -93,6 +99,7 @@ names Shipper = []
 names Point = []
 names Entry = 0 is-a Point ∷ 2 is-a Shipper ∷ []
 names Meter = 0 is-a Shipper ∷ []
+names Excused = 0 is-a Meter ∷ []
 
 -- ---- the firm and the auction MDQ: the place of an MDQ in the row, and that of its schedule
 infix 70 _for_
@@ -105,10 +112,27 @@ mdqs Shipper = 1 for 3 ∷ 2 for 4 ∷ []
 mdqs Point = []
 mdqs Entry = []
 mdqs Meter = []
+mdqs Excused = []
+
+-- ---- C-14: no excused quantity is above its metered hour. So many numbers of a row, from a place on, are capped by as many, from
+-- another place on, of the row that its first name names
+abbrev pub no-cap : Cap
+no-cap = record { many = 0; place = 0; under = 0 }
+
+abbrev pub cap : Tag → Cap
+cap Head = no-cap
+cap Shipper = no-cap
+cap Point = no-cap
+cap Entry = no-cap
+cap Meter = no-cap
+cap Excused = record { many = 11 + 24 + 24; place = 1; under = 3 }
+
+abbrev pub first-name : Tag → Name
+first-name tag = getD (names tag) 0 (0 is-a Head)
 
 -- ---- the tables in file order; the head comes before them and has none
 abbrev pub file-order : List Tag
-file-order = Shipper ∷ Point ∷ Entry ∷ Meter ∷ []
+file-order = Shipper ∷ Point ∷ Entry ∷ Meter ∷ Excused ∷ []
 
 abbrev pub many-tables : ℕ
 many-tables = length file-order
@@ -124,6 +148,7 @@ table-place Shipper = 0
 table-place Point = 1
 table-place Entry = 2
 table-place Meter = 3
+table-place Excused = 4
 
 -- ---- what follows from a body
 -- the kind of a number, counted from 0

@@ -4,7 +4,7 @@ use Prim.Native.Nat.{ℕ, _+_, _*_}
 use lib.Dec.{eqb}
 use Rattle.columns.specs.Sum.{sum}
 use Rattle.dayformat.specs.declared.form.Tag.{Tag}
-use Rattle.dayformat.specs.declared.form.Tag.the-variants.{Head, Shipper, Point, Entry, Meter}
+use Rattle.dayformat.specs.declared.form.Tag.the-variants.{Head, Shipper, Point, Entry, Meter, Excused}
 use Rattle.dayformat.specs.declared.layout.Counts.{Counts}
 use Rattle.dayformat.specs.Format.{body, tag-byte, most, many-tables, tag-at, table-place, numbers-of, field-size}
 
@@ -15,9 +15,17 @@ count counts Shipper = counts .shippers
 count counts Point = counts .points
 count counts Entry = counts .entries
 count counts Meter = counts .meters
+count counts Excused = counts .excused
 
 abbrev pub counts-of : (Tag → ℕ) → Counts
-counts-of figure = record { shippers = figure Shipper; points = figure Point; entries = figure Entry; meters = figure Meter }
+counts-of figure =
+    record {
+      shippers = figure Shipper;
+      points = figure Point;
+      entries = figure Entry;
+      meters = figure Meter;
+      excused = figure Excused;
+    }
 
 -- the counts before anything is read, with so many rows of a tag, and of a full day
 abbrev pub no-rows : Counts

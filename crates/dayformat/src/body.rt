@@ -153,6 +153,19 @@ fn body_of(tag: Tag) -> [Several; KINDS]
                 kind: BACKHAUL,
             },
         ],
+        Tag::Excused => [
+            Several {
+                many: 1,
+                kind: NAME,
+            },
+            Several {
+                many: METER_HOURS,
+                kind: NUMBER,
+            },
+            NOTHING,
+            NOTHING,
+            NOTHING,
+        ],
     }
 }
 

@@ -9,13 +9,14 @@ use crate::body::SIDE;
 ghost use mathlib.Core.Path.{_≡_};
 ghost use Rattle.dayformat.specs.Format.{form};
 
-// The tags, 1 to 5 in this order.
+// The tags 1 to 5, and 9, in this order.
 pub enum Tag {
     Head,
     Shipper,
     Point,
     Entry,
     Meter,
+    Excused,
 }
 
 // A tag's byte; how many numbers its body holds, in how many bytes; how many fields there may be; how many first numbers are the key.
@@ -60,6 +61,10 @@ const METER_BODY: usize = NAME.width
     + 4 * GIGAJOULES.width
     + 2 * BACKHAUL.width;
 
+pub const EXCUSED_COLUMNS: usize = 1 + METER_HOURS;
+
+const EXCUSED_BODY: usize = NAME.width + METER_HOURS * NUMBER.width;
+
 // How many bytes a field has.
 pub const HEAD_FIELD: usize = HEADER + HEAD_BODY;
 
@@ -71,6 +76,8 @@ pub const ENTRY_FIELD: usize = HEADER + ENTRY_BODY;
 
 pub const METER_FIELD: usize = HEADER + METER_BODY;
 
+pub const EXCUSED_FIELD: usize = HEADER + EXCUSED_BODY;
+
 // How many fields of a tag there may be.
 pub const MOST_SHIPPERS: u32 = 64;
 
@@ -79,6 +86,8 @@ pub const MOST_POINTS: u32 = 32;
 pub const MOST_ENTRIES: u32 = 512;
 
 pub const MOST_METERS: u32 = 64;
+
+pub const MOST_EXCUSED: u32 = 64;
 
 pub fn form_of(tag: Tag) -> Form
     ensures { λ r. ⌜ r ≡ form tag ⌝ }
@@ -117,6 +126,13 @@ pub fn form_of(tag: Tag) -> Form
             columns: METER_COLUMNS,
             size: METER_BODY,
             most: MOST_METERS,
+            key: 1,
+        },
+        Tag::Excused => Form {
+            byte: 9,
+            columns: EXCUSED_COLUMNS,
+            size: EXCUSED_BODY,
+            most: MOST_EXCUSED,
             key: 1,
         },
     }

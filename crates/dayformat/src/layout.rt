@@ -1,11 +1,14 @@
 // How many fields of each tag a day has; so where a row stands among its numbers, and how many numbers and bytes there are.
 use crate::form::ENTRY_COLUMNS;
 use crate::form::ENTRY_FIELD;
+use crate::form::EXCUSED_COLUMNS;
+use crate::form::EXCUSED_FIELD;
 use crate::form::HEAD_FIELD;
 use crate::form::HEADER;
 use crate::form::METER_COLUMNS;
 use crate::form::METER_FIELD;
 use crate::form::MOST_ENTRIES;
+use crate::form::MOST_EXCUSED;
 use crate::form::MOST_METERS;
 use crate::form::MOST_POINTS;
 use crate::form::MOST_SHIPPERS;
@@ -30,21 +33,24 @@ ghost use Rattle.dayformat.specs.Acceptance.{counts-check};
 pub const MOST_NUMBERS: usize = MOST_SHIPPERS as usize * SHIPPER_COLUMNS
     + MOST_POINTS as usize * POINT_COLUMNS
     + MOST_ENTRIES as usize * ENTRY_COLUMNS
-    + MOST_METERS as usize * METER_COLUMNS;
+    + MOST_METERS as usize * METER_COLUMNS
+    + MOST_EXCUSED as usize * EXCUSED_COLUMNS;
 
 // How many bytes its file has at most.
 pub const MOST_BYTES: usize = HEAD_FIELD
     + MOST_SHIPPERS as usize * SHIPPER_FIELD
     + MOST_POINTS as usize * POINT_FIELD
     + MOST_ENTRIES as usize * ENTRY_FIELD
-    + MOST_METERS as usize * METER_FIELD;
+    + MOST_METERS as usize * METER_FIELD
+    + MOST_EXCUSED as usize * EXCUSED_FIELD;
 
-// The fields of tags 2 to 5.
+// The fields of tags 2 to 5 and 9.
 pub struct Counts {
     pub shippers: u32,
     pub points: u32,
     pub entries: u32,
     pub meters: u32,
+    pub excused: u32,
 }
 
 pub const NO_ROWS: Counts = Counts {
@@ -52,6 +58,7 @@ pub const NO_ROWS: Counts = Counts {
     points: 0,
     entries: 0,
     meters: 0,
+    excused: 0,
 };
 
 // A day has one head.
@@ -64,6 +71,7 @@ pub fn count_of(counts: Counts, tag: Tag) -> u32
         Tag::Point => counts.points,
         Tag::Entry => counts.entries,
         Tag::Meter => counts.meters,
+        Tag::Excused => counts.excused,
     }
 }
 
@@ -79,6 +87,7 @@ impl Counts {
             Tag::Point => counts.points = rows,
             Tag::Entry => counts.entries = rows,
             Tag::Meter => counts.meters = rows,
+            Tag::Excused => counts.excused = rows,
         }
         counts
     }

@@ -3,7 +3,7 @@ use crate::form::Tag;
 ghost use mathlib.Core.Path.{_≡_};
 ghost use Rattle.dayformat.specs.Format.{tag-at, table-place};
 
-pub const TABLES: usize = 4;
+pub const TABLES: usize = 5;
 
 // The tag of the table at a place, the head's past the last.
 pub fn tag_at(place: usize) -> Tag
@@ -14,6 +14,7 @@ pub fn tag_at(place: usize) -> Tag
         1 => Tag::Point,
         2 => Tag::Entry,
         3 => Tag::Meter,
+        4 => Tag::Excused,
         _ => Tag::Head,
     }
 }
@@ -28,5 +29,6 @@ pub fn table_place(tag: Tag) -> usize
         Tag::Point => 1,
         Tag::Entry => 2,
         Tag::Meter => 3,
+        Tag::Excused => 4,
     }
 }

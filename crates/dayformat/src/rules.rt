@@ -1,7 +1,8 @@
-// What a row names, and which of its numbers are an MDQ and its schedule.
+// What a row names, which of its numbers are an MDQ and its schedule, and which are capped by another row's.
+use crate::body::METER_HOURS;
 use crate::form::Tag;
 ghost use mathlib.Core.Path.{_≡_};
-ghost use Rattle.dayformat.specs.Format.{_is-a_, names, _for_, mdqs, filled-up};
+ghost use Rattle.dayformat.specs.Format.{_is-a_, names, _for_, mdqs, cap, filled-up};
 
 // The place of a key in a row, and the tag of the rows that list it.
 pub struct Name {
@@ -13,6 +14,13 @@ pub struct Name {
 pub struct Pair {
     pub mdq: usize,
     pub schedule: usize,
+}
+
+// So many numbers of a row from a place on, capped by as many from another place on of the row that its first name names.
+pub struct Cap {
+    pub many: usize,
+    pub place: usize,
+    pub under: usize,
 }
 
 // How many names a row has at most. What fills up fewer says nothing: the head's key is empty.
@@ -47,6 +55,13 @@ pub fn names_of(tag: Tag) -> [Name; NAMES]
             },
             NO_NAME,
         ],
+        Tag::Excused => [
+            Name {
+                place: 0,
+                tag: Tag::Meter,
+            },
+            NO_NAME,
+        ],
     }
 }
 
@@ -76,5 +91,29 @@ pub fn mdqs_of(tag: Tag) -> [Pair; MDQS]
         Tag::Point => [NO_PAIR, NO_PAIR],
         Tag::Entry => [NO_PAIR, NO_PAIR],
         Tag::Meter => [NO_PAIR, NO_PAIR],
+        Tag::Excused => [NO_PAIR, NO_PAIR],
+    }
+}
+
+const NO_CAP: Cap = Cap {
+    many: 0,
+    place: 0,
+    under: 0,
+};
+
+pub fn cap_of(tag: Tag) -> Cap
+    ensures { λ r. ⌜ r ≡ cap tag ⌝ }
+{
+    match tag {
+        Tag::Head => NO_CAP,
+        Tag::Shipper => NO_CAP,
+        Tag::Point => NO_CAP,
+        Tag::Entry => NO_CAP,
+        Tag::Meter => NO_CAP,
+        Tag::Excused => Cap {
+            many: METER_HOURS,
+            place: 1,
+            under: 3,
+        },
     }
 }

@@ -1,4 +1,4 @@
--- The tests decide an answer of `check_meter`, of `meter_figures` and of `meter_delivered`: number 0 exactly where they accept.
+-- The tests decide an answer for a meter or a row of excused gas: number 0 exactly where they accept.
 use mathlib.Core.Path.{_≡_, refl}
 use mathlib.Core.List.{List}
 use Prim.Native.Nat.{ℕ}
@@ -7,13 +7,17 @@ use Rattle.columns.specs.Column.{col}
 use Rattle.units.specs.declared.refusal.Check.{Check}
 use Rattle.units.specs.Verdict.{of-check, Decided}
 use Rattle.units.proofs.Verdicts.{AllNumbered, _and_, kept-by, checked, decided}
-use Rattle.dayformat.specs.declared.form.Tag.the-variants.{Meter}
+use Rattle.dayformat.specs.declared.form.Tag.the-variants.{Meter, Excused}
 use Rattle.dayformat.specs.declared.layout.Counts.{Counts}
+use Rattle.dayvalues.specs.declared.shippers.ShipperRow.{ShipperRow}
+use Rattle.dayvalues.specs.Row.{number-at}
+use Rattle.dayvalues.specs.Shippers.{shipper-where, shipper-verdict}
 use Rattle.dayvalues.proofs.Decided.{row-numbered}
 use Rattle.daymeters.specs.declared.figures.MeterRow.{MeterRow}
 use Rattle.daymeters.specs.Meter.{meter-check}
 use Rattle.daymeters.specs.Figures.{figures-of, no-figures, meter-where, meter-answer, meter-verdict}
 use Rattle.daymeters.specs.Hours.{delivered-check, Delivered}
+use Rattle.daymeters.specs.Excused.{excused-row-check, excused-shipper}
 
 pub meter-decided : (counts : Counts) (numbers : List ℕ) (row : ℕ) {found : Check} → found ≡ meter-check counts numbers row
     → Decided (meter-check counts numbers row) tt tt (of-check found)
@@ -31,3 +35,13 @@ pub delivered-decided : {counts : Counts} {numbers : List ℕ} {row : ℕ} {lent
     → Delivered counts numbers row lent found after
     → Decided (delivered-check counts numbers row (length lent)) tt tt (of-check found)
 delivered-decided {counts} {numbers} {row} {lent} D = checked (delivered-numbered counts numbers row (length lent)) (D .answers)
+
+-- ---- excused gas
+module _ (counts : Counts) (numbers : List ℕ) (row : ℕ) where
+  pub excused-row-decided : {found : Check} → found ≡ excused-row-check counts numbers row
+      → Decided (excused-row-check counts numbers row) tt tt (of-check found)
+  excused-row-decided = checked (row-numbered counts numbers row Excused)
+
+  pub excused-shipper-decided : {answer : ShipperRow} → answer ≡ excused-shipper counts numbers row
+      → Decided (excused-row-check counts numbers row) (number-at counts (col numbers) Excused row 0) 0 (shipper-verdict answer)
+  excused-shipper-decided = decided shipper-where shipper-verdict refl (λ refusal. refl) (row-numbered counts numbers row Excused)

@@ -3,3 +3,4 @@ pub mod Writing
 pub mod Answers
 pub mod Decided
 pub mod Determined
+pub mod NoField

@@ -1,4 +1,5 @@
 pub mod Meter
 pub mod Figures
 pub mod Hours
+pub mod Excused
 pub mod Private

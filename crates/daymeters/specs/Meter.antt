@@ -13,15 +13,9 @@ meter-check counts numbers row = row-check counts numbers Meter row
 abbrev pub meter-at : Counts → (ℕ → ℕ) → ℕ → ℕ → ℕ
 meter-at counts numbers row place = number-at counts numbers Meter row place
 
--- tag 5: shipper, P, M, 11 delivered hours of yesterday, 24 delivered, 24 received, the single figures of both sides
-abbrev pub yesterday-at : ℕ
-yesterday-at = 3
-
-abbrev pub delivered-at : ℕ
-delivered-at = yesterday-at + 11
-
-abbrev pub received-at : ℕ
-received-at = delivered-at + 24
+-- tag 5: shipper, P, M, the hours, the single figures of both sides
+abbrev pub hours-at : ℕ
+hours-at = 3
 
 abbrev pub sides-at : ℕ
-sides-at = received-at + 24
+sides-at = hours-at + (11 + 24 + 24)

@@ -1,13 +1,13 @@
 // A meter's single figures.
 use crate::check_meter;
-use crate::hours::RECEIVED;
+use crate::hours::METERED;
+use crate::hours::megajoules_at;
 use dayformat::Counts;
 use dayformat::Tag;
 use dayvalues::number_at;
 use metered::Side;
 use units::Check;
 use units::Gigajoules;
-use units::Megajoules;
 use units::Refusal;
 ghost use mathlib.Core.Path.{_≡_};
 ghost use Prim.Native.Nat.{_≤_};
@@ -32,7 +32,7 @@ pub enum MeterRow {
 }
 
 // Where the figures of the sides begin.
-const SIDES: u32 = RECEIVED + 24;
+const SIDES: u32 = METERED + 11 + 24 + 24;
 
 // The gigajoules at a place.
 fn gigajoules_at(counts: Counts, numbers: &[usize], row: u32, place: u32) -> Gigajoules
@@ -40,13 +40,6 @@ fn gigajoules_at(counts: Counts, numbers: &[usize], row: u32, place: u32) -> Gig
     ensures { λ r. ⌜ r .0 ≡ meter-at counts (col (now (numbers .entry))) row place ⌝ }
 {
     Gigajoules(number_at(counts, numbers, Tag::Meter, row, place) as u32)
-}
-
-// The megajoules at a place.
-pub fn megajoules_at(counts: Counts, numbers: &[usize], row: u32, place: u32) -> Megajoules
-    ensures { λ r. ⌜ r .0 ≡ meter-at counts (col (now (numbers .entry))) row place ⌝ }
-{
-    Megajoules(number_at(counts, numbers, Tag::Meter, row, place) as u64)
 }
 
 // A side's figures: 0 receipt, 1 delivery.
@@ -57,7 +50,7 @@ fn side_of(counts: Counts, numbers: &[usize], row: u32, side: u32) -> Side
     Side {
         forward: gigajoules_at(counts, numbers, row, SIDES + side),
         backhaul: gigajoules_at(counts, numbers, row, SIDES + 2 + side),
-        metered: megajoules_at(counts, numbers, row, SIDES + 4 + side),
+        metered: megajoules_at(counts, numbers, Tag::Meter, row, SIDES + 4 + side),
     }
 }
 

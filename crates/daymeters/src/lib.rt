@@ -1,10 +1,17 @@
-// A meter of a day's block, a shipper's metered day, opened. An enum can't hold an array, so the hours stand beside the check.
+// A meter of a day's block, a shipper's metered day, and what is excused of it, opened. An enum can't hold an array, so the hours stand
+// beside the check.
+mod excused;
 mod figures;
 mod hours;
 
 use dayformat::Counts;
 use dayformat::Tag;
 use dayvalues::check_row;
+pub use excused::check_excused;
+pub use excused::excused_hours;
+pub use excused::excused_row;
+pub use excused::excused_shipper;
+pub use excused::excused_yesterday;
 pub use figures::MeterFigures;
 pub use figures::MeterRow;
 pub use figures::meter_figures;

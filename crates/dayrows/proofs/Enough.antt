@@ -11,7 +11,7 @@ use Rattle.dayformat.specs.declared.form.Tag.the-variants.{Shipper, Point}
 use Rattle.dayformat.specs.declared.layout.Counts.{Counts}
 use Rattle.dayformat.specs.Format.{body, column-in, form}
 use Rattle.dayformat.specs.Layout.{count, table-start, row-start}
-use Rattle.dayrows.specs.Test.{in-bounds, bounded, difference, lists}
+use Rattle.dayrows.specs.Test.{in-bounds, bounded, difference, keyed, lists}
 use Rattle.dayrows.proofs.Searches.{witnessed, unmarked}
 
 -- each of its numbers is within its bounds
@@ -21,12 +21,19 @@ unfolding bounded
 bounded-by f tag at all = unmarked _ (form tag .columns) (λ place l. rw (all place l))
 
 module _ (counts : Counts) (f : ℕ → ℕ) where
-  -- some row of the tag has each number of the key
+  -- a row of the tag has each number of the key
+  pub keyed-by : (tag : Tag) (row at : ℕ)
+      → ((place : ℕ) → place < form tag .key → f (row-start counts tag row + place) ≡ f (at + place)) → keyed counts f tag at row ≡ true
+  unfolding difference
+  keyed-by tag row at same = unmarked _ (form tag .key) (λ place h. rw (eq-eqb _ _ (same place h)))
+
+  pub keyed-listed : (tag : Tag) (row at : ℕ) → row < count counts tag → keyed counts f tag at row ≡ true → lists counts f tag at ≡ true
+  unfolding lists
+  keyed-listed tag row at l e = witnessed (λ row. keyed counts f tag at row) (count counts tag) row l e
+
   pub listed-by : (tag : Tag) (row at : ℕ) → row < count counts tag
       → ((place : ℕ) → place < form tag .key → f (row-start counts tag row + place) ≡ f (at + place)) → lists counts f tag at ≡ true
-  unfolding lists difference
-  listed-by tag row at l same =
-      witnessed _ _ row l (unmarked _ (form tag .key) (λ place h. rw (eq-eqb _ _ (same place h))))
+  listed-by tag row at l same = keyed-listed tag row at l (keyed-by tag row at same)
 
   pub listed-shipper : (row at : ℕ) → row < counts .shippers → f (row * 6) ≡ f at → lists counts f Shipper at ≡ true
   unfolding sum

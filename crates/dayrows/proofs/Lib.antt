@@ -8,3 +8,4 @@ pub mod Within
 pub mod SoundRows
 pub mod Enough
 pub mod Breaking
+pub mod Capping

@@ -1,9 +1,10 @@
 -- A row's tests look at nothing but the numbers before the row's end and the counts of earlier tags.
-use mathlib.Core.Path.{_≡_, refl, ap}
+use mathlib.Core.Path.{_≡_, refl, ap, sym, _∙_}
 use mathlib.Core.Bool.{Bool, true, false, cond, not}
 use mathlib.Core.List.{List, [], _∷_}
+use mathlib.Core.Logic.{_⊎_, inl, inr}
 use Prim.Native.Nat.{ℕ, zero, suc, _+_, _<_}
-use lib.Dec.{leb, ltb}
+use lib.Dec.{leb, ltb, eqb}
 use native.Mathlib.Nat.{mul-le-mul-right}
 use native.Mathlib.Omega.{arith}
 use borrow.Author.Tests.{ltb-true}
@@ -12,7 +13,7 @@ use Rattle.dayformat.specs.declared.form.Tag.{Tag}
 use Rattle.dayformat.specs.declared.rules.Name.{Name}
 use Rattle.dayformat.specs.declared.rules.Pair.{Pair}
 use Rattle.dayformat.specs.declared.layout.Counts.{Counts}
-use Rattle.dayformat.specs.Format.{body, names, mdqs, table-place, column-in, form}
+use Rattle.dayformat.specs.Format.{body, names, mdqs, cap, first-name, table-place, column-in, form}
 use Rattle.dayformat.specs.Layout.{count, table-start, row-start}
 use Rattle.dayformat.specs.Private.{Agree}
 use Rattle.dayformat.proofs.Every.{all-of, all-first}
@@ -22,7 +23,8 @@ use Rattle.dayrows.specs.declared.Source.{Source}
 use Rattle.dayrows.specs.declared.Source.the-variants.{File, Side}
 use Rattle.dayrows.specs.declared.Test.{Test}
 use Rattle.dayrows.specs.declared.Test.the-variants.{Bounds, Key, Mdq}
-use Rattle.dayrows.specs.Test.{in-bounds, bounded, difference, less, rises, lists, names-listed, names-known, some-idle, passes, fault}
+use Rattle.dayrows.specs.Test.{in-bounds, bounded, difference, lists, none-above, caps, capped, in-place, less, rises, names-listed, names-known, some-idle, passes, fault}
+use Rattle.dayrows.proofs.Capping.{cap-inside, cap-fits, uncapped}
 use Rattle.dayrows.proofs.Fitting.{Fits, fits, fits-is, names-fit, inside-row, inside-row-is, mdqs-inside}
 
 -- the tables before a tag's begin where they did, and so does its own
@@ -84,23 +86,29 @@ module _ (f g : ℕ → ℕ) where
         (ap (λ row. ltb row (count c tag)) (first-same _ _ _ (λ row l. ap (leb (form tag .key)) (key-same row at l same here))))
 
   -- the tables that a row names stand before its own
-  listed-same : (tag : Tag) (c d : Counts) (row : ℕ) → Agree (table-place tag) c d → Before (row-start c tag (suc row))
-      → (name : Name) → Fits tag name
-      → lists c f (name .tag) (row-start c tag row + name .place) ≡ lists d g (name .tag) (row-start c tag row + name .place)
-  listed-same tag c d row e same name F =
-      let before = F .before in
-      lists-same (name .tag) c d (start-same (name .tag) c d (λ place l. e place (omega (arith, l, before))))
-      (row-start c tag row + name .place)
-      (rw (F .table) at (e (table-place (name .tag)) before))
-      (λ place l.
-      same place
-      (omega (
-        arith,
-        l,
-        before-next c (name .tag) (F .table),
-        before-within c (suc (table-place (name .tag))) (table-place tag) before,
-      )))
-      (λ place l. same (row-start c tag row + name .place + place) (omega (arith, l, F .near)))
+  module _ (tag : Tag) (c d : Counts) (row : ℕ) (e : Agree (table-place tag) c d) (same : Before (row-start c tag (suc row)))
+      (name : Name) (F : Fits tag name) where
+    named-start : table-start c (name .tag) ≡ table-start d (name .tag)
+    named-start = start-same (name .tag) c d (λ place l. e place (omega (arith, l, F .before)))
+
+    named-count : count c (name .tag) ≡ count d (name .tag)
+    named-count = rw (F .table) at (e (table-place (name .tag)) (F .before))
+
+    named-before : Before (row-start c (name .tag) (count c (name .tag)))
+    named-before place l =
+        same place
+        (omega (
+          arith,
+          l,
+          before-next c (name .tag) (F .table),
+          before-within c (suc (table-place (name .tag))) (table-place tag) (F .before),
+        ))
+
+    name-from : From (row-start c tag row + name .place) (form (name .tag) .key)
+    name-from place l = same (row-start c tag row + name .place + place) (omega (arith, l, F .near))
+
+    listed-same : lists c f (name .tag) (row-start c tag row + name .place) ≡ lists d g (name .tag) (row-start c tag row + name .place)
+    listed-same = lists-same (name .tag) c d named-start (row-start c tag row + name .place) named-count named-before name-from
 
   names-same : (tag : Tag) (c d : Counts) (row : ℕ) → Agree (table-place tag) c d → Before (row-start c tag (suc row))
       → (list : List Name) → all-of (fits tag) list ≡ true
@@ -120,6 +128,59 @@ module _ (f g : ℕ → ℕ) where
       let here = inside-row-is tag pair (first .0) in
       rw (same (pair .mdq) (here .0), same (pair .schedule) (here .1), idle-same tag at same rest (first .1))
 
+  above-same : (many one other : ℕ) → From one many → From other many → none-above f many one other ≡ none-above g many one other
+  unfolding none-above
+  above-same many one other first second =
+      ap (leb many)
+      (first-same many (λ place. ltb (f (other + place)) (f (one + place))) (λ place. ltb (g (other + place)) (g (one + place)))
+      (λ place l. rw (first place l, second place l)))
+
+  -- a row that caps stands in a table before, and nothing else is looked at
+  caps-same : (tag : Tag) (c d : Counts) (row : ℕ) → Agree (table-place tag) c d → Before (row-start c tag (suc row))
+      → Fits tag (first-name tag) → (other : ℕ) → other < count c (first-name tag .tag)
+      → caps c f tag (row-start c tag row) other ≡ caps d g tag (row-start c tag row) other
+  unfolding caps
+  caps-same tag c d row e same F other l =
+      let name = first-name tag in
+      let at = row-start c tag row in
+      let start = named-start tag c d row e same name F in
+      let before = named-before tag c d row e same name F in
+      let inside = cap-inside tag in
+      rw (
+        ← start,
+        key-same (name .tag) c d start other (at + name .place) l before (name-from tag c d row e same name F),
+        above-same (cap tag .many) (at + cap tag .place) (row-start c (name .tag) other + cap tag .under)
+            (λ place k. same (at + cap tag .place + place) (omega (arith, k, inside .inside)))
+            (λ place k.
+            before (row-start c (name .tag) other + cap tag .under + place)
+            (omega (arith, k, inside .under, mul-le-mul-right (form (name .tag) .columns) l))),
+      )
+
+  capped-same : (tag : Tag) (c d : Counts) (row : ℕ) → Agree (table-place tag) c d → Before (row-start c tag (suc row))
+      → capped c f tag (row-start c tag row) ≡ capped d g tag (row-start c tag row)
+  unfolding capped
+  capped-same tag c d row e same = by (cap-fits tag)
+    where
+      at : ℕ
+      at = row-start c tag row
+
+      by : (cap tag .many ≡ 0) ⊎ Fits tag (first-name tag) → capped c f tag at ≡ capped d g tag at
+      by (inl none) = uncapped c f tag at none ∙ sym (uncapped d g tag at none)
+      by (inr F) =
+          rw (
+            listed-same tag c d row e same (first-name tag) F,
+            ← named-count tag c d row e same (first-name tag) F,
+            first-same (count c (first-name tag .tag)) (λ other. caps c f tag at other) (λ other. caps d g tag at other)
+                (caps-same tag c d row e same F),
+          )
+
+  in-place-same : (source : Source) (tag : Tag) (c d : Counts) (row : ℕ) → Agree (table-place tag) c d
+      → Before (row-start c tag (suc row))
+      → in-place source c f tag (row-start c tag row) ≡ in-place source d g tag (row-start c tag row)
+  in-place-same File tag c d row e same = capped-same tag c d row e same
+  in-place-same (Side side) tag c d row e same =
+      ap (λ number. eqb number side) (same (row-start c tag row) (omega (arith, small tag .some-columns)))
+
   known-same : (source : Source) (tag : Tag) (c d : Counts) (row : ℕ) → Agree (table-place tag) c d → Before (row-start c tag (suc row))
       → names-known source c f tag (row-start c tag row) ≡ names-known source d g tag (row-start c tag row)
   known-same File tag c d row e same = names-same tag c d row e same (names tag) (names-fit tag)
@@ -134,7 +195,7 @@ passes-same Bounds source tag c d f g row e same =
     rw (
       ← start-same tag c d e,
       bounded-same f g tag at (λ place l. same (at + place) (omega arith)),
-      same at (omega (arith, small tag .some-columns)),
+      in-place-same f g source tag c d row e same,
     )
 passes-same Key source tag c d f g row e same =
     rw (rises-same f g tag c d (start-same tag c d e) row same, ← start-same tag c d e, known-same f g source tag c d row e same)

@@ -10,7 +10,7 @@ use Rattle.dayformat.specs.declared.rules.Name.{Name}
 use Rattle.dayformat.specs.declared.rules.Pair.{Pair}
 use Rattle.dayformat.specs.declared.body.Column.{Column}
 use Rattle.dayformat.specs.declared.layout.Counts.{Counts}
-use Rattle.dayformat.specs.Format.{body, names, mdqs, column-in, form}
+use Rattle.dayformat.specs.Format.{body, names, mdqs, cap, first-name, column-in, form}
 use Rattle.dayformat.specs.Layout.{count, row-start}
 use Rattle.dayrows.specs.declared.Source.{Source}
 use Rattle.dayrows.specs.declared.Source.the-variants.{File, Side}
@@ -27,15 +27,44 @@ unfoldable pub bounded : (ℕ → ℕ) → Tag → ℕ → Bool
 bounded numbers tag at =
     leb (form tag .columns) (first (form tag .columns) (λ place. not (in-bounds (column-in (body tag) place) (numbers (at + place)))))
 
--- in a list of one side's entries, an entry of the other side is beyond its bound
-abbrev pub of-side : Source → ℕ → Bool
-of-side File number = true
-of-side (Side side) number = eqb number side
-
--- ---- 5
 -- the first of so many numbers in which those from one place on differ from those from another
 unfoldable pub difference : (ℕ → ℕ) → ℕ → ℕ → ℕ → ℕ
 difference numbers many one other = first many (λ place. not (eqb (numbers (one + place)) (numbers (other + place))))
+
+-- a row of the tag has the key that stands at a place
+abbrev pub keyed : Counts → (ℕ → ℕ) → Tag → ℕ → ℕ → Bool
+keyed counts numbers tag at row = leb (form tag .key) (difference numbers (form tag .key) (row-start counts tag row) at)
+
+-- some row of the tag has it
+unfoldable pub lists : Counts → (ℕ → ℕ) → Tag → ℕ → Bool
+lists counts numbers tag at = ltb (first (count counts tag) (λ row. keyed counts numbers tag at row)) (count counts tag)
+
+-- none of so many numbers from one place on is above that from another on
+unfoldable pub none-above : (ℕ → ℕ) → ℕ → ℕ → ℕ → Bool
+none-above numbers many one other = leb many (first many (λ place. ltb (numbers (other + place)) (numbers (one + place))))
+
+-- a row that the row at a place names caps its numbers
+unfoldable pub caps : Counts → (ℕ → ℕ) → Tag → ℕ → ℕ → Bool
+caps counts numbers tag at row =
+    let name = first-name tag in
+    cond (keyed counts numbers (name .tag) (at + name .place) row)
+    (none-above numbers (cap tag .many) (at + cap tag .place) (row-start counts (name .tag) row + cap tag .under))
+    false
+
+-- some row that it names does, where there is any; where keys rise there is one at most
+unfoldable pub capped : Counts → (ℕ → ℕ) → Tag → ℕ → Bool
+capped counts numbers tag at =
+    let name = first-name tag in
+    cond (lists counts numbers (name .tag) (at + name .place))
+    (ltb (first (count counts (name .tag)) (λ row. caps counts numbers tag at row)) (count counts (name .tag)))
+    true
+
+-- in a list of one side's entries nothing is looked up, and an entry of the other side is beyond its bound
+abbrev pub in-place : Source → Counts → (ℕ → ℕ) → Tag → ℕ → Bool
+in-place File counts numbers tag at = capped counts numbers tag at
+in-place (Side side) counts numbers tag at = eqb (numbers at) side
+
+-- ---- 5
 
 -- the first number in which the key that stands at one place differs from that at another is the less
 abbrev pub less : (ℕ → ℕ) → ℕ → ℕ → ℕ → Bool
@@ -47,12 +76,6 @@ less numbers key one other =
 unfoldable pub rises : Counts → (ℕ → ℕ) → Tag → ℕ → Bool
 rises counts numbers tag zero = true
 rises counts numbers tag (suc row) = less numbers (form tag .key) (row-start counts tag row) (row-start counts tag (suc row))
-
--- some row of the tag has the key that stands at a place
-unfoldable pub lists : Counts → (ℕ → ℕ) → Tag → ℕ → Bool
-lists counts numbers tag at =
-    ltb (first (count counts tag) (λ row. leb (form tag .key) (difference numbers (form tag .key) (row-start counts tag row) at)))
-    (count counts tag)
 
 -- every name of the row that begins at a place is listed
 unfoldable pub names-listed : Counts → (ℕ → ℕ) → ℕ → List Name → Bool
@@ -82,7 +105,7 @@ starved numbers tag at = some-idle numbers at (mdqs tag)
 unfoldable pub passes : Test → Source → Counts → (ℕ → ℕ) → Tag → ℕ → Bool
 passes Bounds source counts numbers tag row =
     let at = row-start counts tag row in
-    cond (ltb row (form tag .most)) (cond (bounded numbers tag at) (of-side source (numbers at)) false) false
+    cond (ltb row (form tag .most)) (cond (bounded numbers tag at) (in-place source counts numbers tag at) false) false
 passes Key source counts numbers tag row =
     cond (rises counts numbers tag row) (names-known source counts numbers tag (row-start counts tag row)) false
 passes Mdq source counts numbers tag row = not (starved numbers tag (row-start counts tag row))

@@ -13,7 +13,7 @@ ghost use Rattle.columns.specs.Column.{col};
 ghost use Rattle.dayrows.specs.Test.{difference, rises, lists, named};
 
 // The first of so many numbers in which those from one place on differ from those from another.
-fn first_difference(numbers: &[usize], many: usize, one: usize, other: usize) -> usize
+pub fn first_difference(numbers: &[usize], many: usize, one: usize, other: usize) -> usize
     requires { ⌜ (many ≤ 68) × (one < 2 ^ 41) × (other < 2 ^ 41) ⌝ }
     ensures { λ r. ⌜ (r ≡ difference (col (now (numbers .entry))) many one other) × (r ≤ many) ⌝ }
 {
@@ -45,7 +45,7 @@ pub fn rises(counts: Counts, numbers: &[usize], tag: Tag, row: u32) -> bool
 }
 
 // Whether some row of the tag has the key that stands at a place.
-fn lists(counts: Counts, numbers: &[usize], tag: Tag, at: usize) -> bool
+pub fn lists(counts: Counts, numbers: &[usize], tag: Tag, at: usize) -> bool
     requires { ⌜ at < 2 ^ 41 ⌝ }
     ensures { λ r. ⌜ r ≡ lists counts (col (now (numbers .entry))) tag at ⌝ }
 {

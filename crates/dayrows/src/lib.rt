@@ -1,11 +1,13 @@
 // 01's tests of a field, opened: 1 and 2 of its bytes, and 3, 5 and 4 of its row among a day's numbers. Numbers past the end of the list
 // count as zero.
 mod bounds;
+mod caps;
 mod field;
 mod keys;
 mod mdqs;
 
 use crate::bounds::is_bounded;
+use crate::caps::is_capped;
 use crate::keys::is_named;
 use crate::keys::rises;
 use crate::mdqs::is_starved;
@@ -20,7 +22,7 @@ pub use mdqs::is_idle;
 ghost use mathlib.Core.Path.{_≡_};
 ghost use Prim.Native.Nat.{_^_, _<_};
 ghost use Rattle.columns.specs.Column.{col};
-ghost use Rattle.dayrows.specs.Test.{of-side, names-known, passes, fault, first-failing};
+ghost use Rattle.dayrows.specs.Test.{in-place, names-known, passes, fault, first-failing};
 
 // Where rows stand: in a day's file or block, or in a list of the entries of one side.
 pub enum Source {
@@ -51,7 +53,7 @@ pub fn row_fault(source: Source, counts: Counts, numbers: &[usize], tag: Tag, ro
     0
 }
 
-// 3: a row too many, a number beyond its bound, an entry of the other side.
+// 3: a row too many, a number beyond its bound or its cap, an entry of the other side.
 fn keeps_bounds(source: Source, counts: Counts, numbers: &[usize], tag: Tag, row: u32) -> bool
     ensures { λ r. ⌜ r ≡ passes Test.Bounds source counts (col (now (numbers .entry))) tag row ⌝ }
 {
@@ -60,17 +62,18 @@ fn keeps_bounds(source: Source, counts: Counts, numbers: &[usize], tag: Tag, row
     }
     let at = row_place(counts, tag, row);
     if is_bounded(numbers, tag, at) {
-        return is_of_side(source, number_of(numbers, at));
+        return is_in_place(source, counts, numbers, tag, at);
     }
     false
 }
 
-fn is_of_side(source: Source, number: usize) -> bool
-    ensures { λ r. ⌜ r ≡ of-side source number ⌝ }
+fn is_in_place(source: Source, counts: Counts, numbers: &[usize], tag: Tag, at: usize) -> bool
+    requires { ⌜ at < 2 ^ 40 ⌝ }
+    ensures { λ r. ⌜ r ≡ in-place source counts (col (now (numbers .entry))) tag at ⌝ }
 {
     match source {
-        Source::File => true,
-        Source::Side(side) => number == side,
+        Source::File => is_capped(counts, numbers, tag, at),
+        Source::Side(side) => number_of(numbers, at) == side,
     }
 }
 

@@ -17,34 +17,35 @@ use Rattle.dayformat.specs.declared.form.Tag.the-variants.{Head, Shipper, Point
 use Rattle.dayformat.specs.declared.form.Form.{Form}
 use Rattle.dayformat.specs.declared.rules.Name.{Name}
 use Rattle.dayformat.specs.declared.layout.Counts.{Counts}
-use Rattle.dayformat.specs.Format.{_is-a_, names, tag-byte, table-place, filled-up, form}
+use Rattle.dayformat.specs.Format.{_is-a_, names, first-name, tag-byte, table-place, filled-up, form}
 use Rattle.dayformat.specs.Layout.{count, row-start}
 use Rattle.dayformat.specs.Private.{HasTable}
 use Rattle.dayformat.proofs.Every.{either, passes-every, byte-tells, all-of, all-at}
 use Rattle.dayformat.proofs.Filled.{length-filled}
 use Rattle.dayformat.proofs.Layouts.{before-next, before-within}
 use Rattle.dayformat.proofs.Small.{small}
-use Rattle.dayrows.specs.Test.{lists, names-listed, named}
-use Rattle.dayrows.proofs.Enough.{listed-by}
+use Rattle.dayrows.specs.Test.{keyed, lists, capped, names-listed, named}
+use Rattle.dayrows.proofs.Capping.{cap-fits, first-of, capped-by}
+use Rattle.dayrows.proofs.Enough.{keyed-by}
 use Rattle.dayrows.proofs.Naming.{listed-filled}
 use Rattle.dayrows.proofs.Within.{both}
-use Rattle.dayruns.specs.Private.{Same, KeysInside, RowRead}
+use Rattle.dayruns.specs.Private.{Same, KeysInside, CapsInside, under-cap, RowRead}
 use Rattle.dayruns.proofs.RowReading.{row-room}
 
 -- ---- a row of the table that a key is looked for in
 module _ (counts : Counts) (tag : Tag) (numbers : List ℕ) (at row : ℕ) {found : Form} (is : found ≡ form tag) {start : ℕ}
     (begins : start ≡ row-start counts tag 0) (l : row < count counts tag) where
-  here : start + row * found .columns ≡ row-start counts tag row
-  here = rw is (omega (arith, begins))
+  pub row-here : start + row * found .columns ≡ row-start counts tag row
+  row-here = rw is (omega (arith, begins))
 
   pub row-inside : KeysInside counts tag at numbers
       → (start + row * found .columns + found .key ≤ length numbers) × (at + found .key ≤ length numbers)
-  row-inside K = rw (here, is) (K .1 row l, K .0)
+  row-inside K = rw (row-here, is) (K .1 row l, K .0)
 
-  pub row-listed : Same (col numbers) (found .key) (start + row * found .columns) at → lists counts (col numbers) tag at ≡ true
-  row-listed same =
-      listed-by counts (col numbers) tag row at l
-      (λ place h. ap (λ from. col numbers (from + place)) (sym here) ∙ same place (omega (arith, h, ap (λ form. form .key) is)))
+  pub row-keyed : Same (col numbers) (found .key) (start + row * found .columns) at → keyed counts (col numbers) tag at row ≡ true
+  row-keyed same =
+      keyed-by counts (col numbers) tag row at
+      (λ place h. ap (λ from. col numbers (from + place)) (sym row-here) ∙ same place (omega (arith, h, ap (λ form. form .key) is)))
 
 -- ---- a tag's names, filled up: each stands within the row, and is the head's or is listed in a table before
 abbrev sits : Tag → Name → Bool
@@ -65,20 +66,25 @@ before tag other e = ⊎-elim inl (λ t. by (ltb (table-place other) (table-plac
     by true is t e = inr (t, ltb-true _ _ is)
     by false is t e = inl (byte-tells other Head (eqb-true _ _ e))
 
--- the head's key is empty; any other table ends before the row
+-- a table before ends before the row
+row-ends : (counts : Counts) (tag other : Tag) (row room : ℕ) → row-start counts tag row ≤ room → HasTable other
+    → table-place other < table-place tag → (i : ℕ) → i < count counts other → row-start counts other i + form other .columns ≤ room
+row-ends counts tag other row room ends table earlier i l =
+    omega (
+      arith,
+      ends,
+      mul-le-mul-right (form other .columns) l,
+      before-next counts other table,
+      before-within counts (suc (table-place other)) (table-place tag) earlier,
+    )
+
+-- the head's key is empty
 rows-inside : (counts : Counts) (tag other : Tag) (row room : ℕ) → row-start counts tag row ≤ room → Before tag other
     → (i : ℕ) → i < count counts other → row-start counts other i + form other .key ≤ room
 unfolding sum
 rows-inside counts tag other row room ends (inl is) i l = rw is (omega (arith, rw is at l))
 rows-inside counts tag other row room ends (inr t) i l =
-    omega (
-      arith,
-      ends,
-      small other .key,
-      mul-le-mul-right (form other .columns) l,
-      before-next counts other (t .0),
-      before-within counts (suc (table-place other)) (table-place tag) (t .1),
-    )
+    omega (arith, small other .key, row-ends counts tag other row room ends (t .0) (t .1) i l)
 
 module _ {counts : Counts} {file : List ℕ} {tag : Tag} {at row : ℕ} {lent after : List ℕ} {kept : Bool}
     (R : RowRead counts file tag at row lent after kept) (k : kept ≡ true) {to : ℕ} (here : to ≡ row-start counts tag row)
@@ -98,6 +104,23 @@ module _ {counts : Counts} {file : List ℕ} {tag : Tag} {at row : ℕ} {lent af
       rw is (
         omega (arith, here, row-room R k, near),
         rows-inside counts tag (name .tag) row (length after) (omega (arith, row-room R k)) (before tag (name .tag) (fits .1)),
+      )
+
+  -- the row that the first name is found in, where it caps any numbers
+  pub caps-inside : (past : Name) {other : ℕ} → other < count counts (getD list 0 past .tag)
+      → CapsInside counts tag (getD list 0 past .tag) to other after
+  caps-inside past {other} l =
+      let first = first-of tag is past in (
+        ap (λ name. name .tag) first,
+        l,
+        omega (arith, here, row-room R k),
+        rw first
+            (⊎-elim inl
+            (λ F.
+            inr
+            (row-ends counts tag (first-name tag .tag) row (length after) (omega (arith, row-room R k)) (F .table) (F .before) other
+            (rw first at l)))
+            (cap-fits tag)),
       )
 
 -- ---- where both are listed, so is every name of the row
@@ -121,6 +144,15 @@ module _ (counts : Counts) (f : ℕ → ℕ) where
       ∙ sym (listed-filled counts f to tag)
       ∙ ap (names-listed counts f to) (sym is)
       ∙ both-listed to list past (ap length is ∙ length-filled 2 (0 is-a Head) (names tag)) one two
+
+  -- and where the row of the first caps the row's numbers, it keeps under them
+  pub first-caps : (tag : Tag) (row : ℕ) {to : ℕ} → to ≡ row-start counts tag row → {list : List Name} (past : Name)
+      → list ≡ filled-up 2 (0 is-a Head) (names tag) → {other : ℕ} → other < count counts (getD list 0 past .tag)
+      → keyed counts f (getD list 0 past .tag) (to + getD list 0 past .place) other ≡ true
+      → under-cap counts f tag (getD list 0 past .tag) to other ≡ true → capped counts f tag (row-start counts tag row) ≡ true
+  first-caps tag row {to} here {list} past is {other} l same under =
+      let first = first-of tag is past in
+      rw (← here) (capped-by counts f tag to other (rw first at l) (rw first at same) (rw first at under))
 
   -- an entry's point and shipper
   pub entry-named : (row : ℕ) {to : ℕ} → to ≡ row-start counts Entry row → lists counts f Point to ≡ true

@@ -1,11 +1,12 @@
 -- A row that is laid again is laid as it was, so a field that is not seen to be sound can be taken afresh.
 use mathlib.Core.Path.{_≡_, refl, ap, ap₂, sym, _∙_}
-use mathlib.Core.Bool.{Bool, true, false, true≢false}
+use mathlib.Core.Bool.{Bool, true, false, cond, true≢false}
 use mathlib.Core.List.{List, _++_, append-assoc}
 use mathlib.Core.Logic.{⊎-elim}
 use Prim.Native.Nat.{ℕ, _+_, _≤_}
 use native.Mathlib.Omega.{arith}
 use borrow.Author.Tests.{eq-eqb}
+use lib.Dec.{ltb}
 use lib.ListN.{length, take, drop, length-append}
 use lib.Seq.{sets, sets-eq, length-sets, length-take-le, take-at, drop-at}
 use Rattle.columns.specs.Column.{col}
@@ -19,7 +20,7 @@ use Rattle.dayformat.specs.Layout.{row-start}
 use Rattle.dayrows.specs.declared.Source.{Source}
 use Rattle.dayrows.specs.declared.Source.the-variants.{File}
 use Rattle.dayrows.specs.declared.Test.the-variants.{Bounds, Key, Mdq}
-use Rattle.dayrows.specs.Test.{rises, named, passes, fault}
+use Rattle.dayrows.specs.Test.{bounded, capped, rises, named, passes, fault}
 use Rattle.dayrows.specs.Whole.{broken, with-row}
 use Rattle.dayrows.proofs.Faults.{none-fault}
 use Rattle.dayrows.proofs.Within.{both}
@@ -48,21 +49,32 @@ module _ (vs l : List ℕ) (i : ℕ) (room : i + length vs ≤ length l) where
       ∙ ap₂ (λ start rest. start ++ vs ++ rest) start-twice rest-twice
       ∙ sym (sets-eq vs l i room)
 
--- ---- a row that passes every test but that of its names is sound where they are listed
+-- ---- a row that passes every test but those of its names and its caps is sound where they are listed and it keeps under them
 keyed : (counts : Counts) (f : ℕ → ℕ) (tag : Tag) (row : ℕ) → rises counts f tag row ≡ true
     → named counts f tag (row-start counts tag row) ≡ true → passes Key File counts f tag row ≡ true
 unfolding passes
 keyed counts f tag row risen known = rw (risen, known)
 
+kept-under : (counts : Counts) (f : ℕ → ℕ) (tag : Tag) (row : ℕ)
+    → cond (ltb row (form tag .most)) (bounded f tag (row-start counts tag row)) false ≡ true
+    → capped counts f tag (row-start counts tag row) ≡ true → passes Bounds File counts f tag row ≡ true
+unfolding passes
+kept-under counts f tag row e under = let inside = both (ltb row (form tag .most)) _ e in rw (inside .0, inside .1, under)
+
 sound-named : (counts : Counts) (f : ℕ → ℕ) (tag : Tag) (row : ℕ) → orderly counts f tag row ≡ true
-    → named counts f tag (row-start counts tag row) ≡ true → fault File counts f tag row ≡ 0
+    → named counts f tag (row-start counts tag row) ≡ true → capped counts f tag (row-start counts tag row) ≡ true
+    → fault File counts f tag row ≡ 0
 unfolding orderly
-sound-named counts f tag row e known =
+sound-named counts f tag row e known under =
     let bounds = both _ _ e in
     let rest = both _ _ (bounds .1) in
     none-fault File counts f tag row
     (λ test.
-    elim test [ Bounds ↦ bounds .0 | Key ↦ keyed counts f tag row (rest .0) known | Mdq ↦ rest .1 ])
+    elim test [
+      | Bounds ↦ kept-under counts f tag row (bounds .0) under
+      | Key ↦ keyed counts f tag row (rest .0) known
+      | Mdq ↦ rest .1
+    ])
 
 -- ---- a glance
 module _ (source : Source) (counts : Counts) (file : List ℕ) (tag : Tag) (at row : ℕ) (lent : List ℕ) where
@@ -92,16 +104,21 @@ module _ (source : Source) (counts : Counts) (file : List ℕ) (tag : Tag) (at r
     again {last} {number} T =
         ⊎-elim (λ left. rw left at T) (λ laid. afresh (laid .0) (rw (laid .1) at T)) (R .lays)
 
-    pub glanced : {sound : Bool}
-        → (sound ≡ true → (kept ≡ true) × (source ≡ File) × (named counts (col after) tag (row-start counts tag row) ≡ true))
-        → Glanced source counts file tag at row lent after sound
+    -- what is seen of a row besides
+    abbrev Seen : Type 0
+    Seen =
+        (kept ≡ true)
+        × (source ≡ File)
+        × (named counts (col after) tag (row-start counts tag row) ≡ true)
+        × (capped counts (col after) tag (row-start counts tag row) ≡ true)
+
+    pub glanced : {sound : Bool} → (sound ≡ true → Seen) → Glanced source counts file tag at row lent after sound
     glanced tells = record { sure = λ yes. sure (tells yes); again = again }
       where
-        sure : (kept ≡ true) × (source ≡ File) × (named counts (col after) tag (row-start counts tag row) ≡ true)
-            → Taken source counts file tag at row lent after 0
+        sure : Seen → Taken source counts file tag at row lent after 0
         sure seen =
             let read = R .keeps (seen .0) in
-            let none = sound-named counts (col after) tag row (read .2) (seen .2) in
+            let none = sound-named counts (col after) tag row (read .2) (seen .2) (seen .3) in
             taken-whole source counts file tag at row lent (sym (read .0 .0)) refl (read .1) (rw (seen .1) (sym none))
 
     -- a row laid, and no more said of it

@@ -4,6 +4,7 @@ use mathlib.Core.Bool.{Bool, true, false, cond}
 use mathlib.Core.List.{List, [], _∷_, _++_}
 use mathlib.Core.Logic.{_⊎_}
 use Prim.Native.Nat.{ℕ, _+_, _*_, _^_, _≤_, _<_}
+use lib.Dec.{ltb}
 use lib.ListN.{length, drop, replicate}
 use lib.Seq.{sets}
 use Rattle.columns.specs.Column.{col}
@@ -12,12 +13,12 @@ use Rattle.dayformat.specs.declared.form.Tag.{Tag}
 use Rattle.dayformat.specs.declared.body.Column.{Column}
 use Rattle.dayformat.specs.declared.body.Several.{Several}
 use Rattle.dayformat.specs.declared.layout.Counts.{Counts}
-use Rattle.dayformat.specs.Format.{column-in, numbers-of, widths, form}
+use Rattle.dayformat.specs.Format.{cap, first-name, column-in, numbers-of, widths, form}
 use Rattle.dayformat.specs.Layout.{count, row-start}
 use Rattle.dayrows.specs.declared.Source.{Source}
 use Rattle.dayrows.specs.declared.Source.the-variants.{File}
-use Rattle.dayrows.specs.declared.Test.the-variants.{Bounds, Mdq}
-use Rattle.dayrows.specs.Test.{in-bounds, bounded, rises, passes}
+use Rattle.dayrows.specs.declared.Test.the-variants.{Mdq}
+use Rattle.dayrows.specs.Test.{in-bounds, bounded, none-above, rises, passes}
 use Rattle.dayrows.specs.Whole.{broken, with-row}
 use Rattle.dayfields.specs.Field.{Taken}
 use Rattle.dayruns.specs.declared.kind.Cursor.{Cursor}
@@ -75,10 +76,10 @@ pub record BodyRead (file : List ℕ) (tag : Tag) (from : Cursor) (lent after : 
 abbrev pub Ready : List ℕ → Tag → ℕ → ℕ → ℕ → Type 0
 Ready file tag at to room = (broken file tag at ≡ 0) × (to + form tag .columns ≤ room)
 
--- a row passes 3, 5 but for its names, and 4
+-- a row passes 3 but for its caps, 5 but for its names, and 4
 unfoldable pub orderly : Counts → (ℕ → ℕ) → Tag → ℕ → Bool
 orderly counts numbers tag row =
-    cond (passes Bounds File counts numbers tag row)
+    cond (cond (ltb row (form tag .most)) (bounded numbers tag (row-start counts tag row)) false)
     (cond (rises counts numbers tag row) (passes Mdq File counts numbers tag row) false)
     false
 
@@ -100,6 +101,19 @@ abbrev pub KeysInside : Counts → Tag → ℕ → List ℕ → Type 0
 KeysInside counts tag at numbers =
     (at + form tag .key ≤ length numbers)
     × ((row : ℕ) → row < count counts tag → row-start counts tag row + form tag .key ≤ length numbers)
+
+-- ---- caps: the row at a place lies within the numbers, and so does the row of another table that caps it, where any does
+abbrev pub CapsInside : Counts → Tag → Tag → ℕ → ℕ → List ℕ → Type 0
+CapsInside counts tag named at row numbers =
+    (named ≡ first-name tag .tag)
+    × (row < count counts named)
+    × (at + form tag .columns ≤ length numbers)
+    × ((cap tag .many ≡ 0) ⊎ (row-start counts named row + form named .columns ≤ length numbers))
+
+-- no number of the row at a place is above its cap
+abbrev pub under-cap : Counts → (ℕ → ℕ) → Tag → Tag → ℕ → ℕ → Bool
+under-cap counts numbers tag named at row =
+    none-above numbers (cap tag .many) (at + cap tag .place) (row-start counts named row + cap tag .under)
 
 -- ---- a field seen to be sound is taken; one that is not may still be taken, as if nothing had been done
 pub record Glanced (source : Source) (counts : Counts) (file : List ℕ) (tag : Tag) (at row : ℕ) (lent after : List ℕ) (sound : Bool)

@@ -6,6 +6,7 @@ use dayformat::GIGAJOULES;
 use dayformat::HOUR;
 use dayformat::METER_HOURS;
 use dayformat::NAME;
+use dayformat::NUMBER;
 use dayformat::SIDE;
 use dayformat::Tag;
 ghost use Rattle.dayformat.specs.Format.{body};
@@ -48,6 +49,14 @@ fn read_meter(file: &[u8], from: Cursor, numbers: &mut [usize]) -> Cursor
     read_kind(file, schedules, 2, BACKHAUL, numbers)
 }
 
+fn read_excused(file: &[u8], from: Cursor, numbers: &mut [usize]) -> Cursor
+    requires { ⌜ BodyRoom Tag.Excused (now file) from (now numbers) ⌝ }
+    ensures { λ r. ⌜ KindsRead (body Tag.Excused) (now (file .entry)) from (now (numbers .entry)) (now (numbers .exit)) r ⌝ }
+{
+    let shipper = read_kind(file, from, 1, NAME, numbers);
+    read_kind(file, shipper, METER_HOURS, NUMBER, numbers)
+}
+
 // The body of a tag. A head, of which a file has one, is not read so.
 pub fn read_body(file: &[u8], tag: Tag, from: Cursor, numbers: &mut [usize]) -> bool
     requires { ⌜ BodyRoom tag (now file) from (now numbers) ⌝ }
@@ -59,5 +68,6 @@ pub fn read_body(file: &[u8], tag: Tag, from: Cursor, numbers: &mut [usize]) -> 
         Tag::Point => read_point(file, from, numbers).kept,
         Tag::Entry => read_entry(file, from, numbers).kept,
         Tag::Meter => read_meter(file, from, numbers).kept,
+        Tag::Excused => read_excused(file, from, numbers).kept,
     }
 }

@@ -1,4 +1,5 @@
 // A field seen to be sound at a glance: its row is read once, by its tag's own reader. What is not seen so is taken in full.
+use crate::caps::is_under;
 use crate::names::Near;
 use crate::names::near_entry;
 use crate::names::row_keyed_from;
@@ -48,7 +49,7 @@ fn glance_at_entry(
     }
 }
 
-// Any other row, whose names are looked for one after another.
+// Any other row, whose names are looked for one after another; the first may find what caps its numbers.
 fn glance_at_row(
     counts: Counts,
     file: &[u8],
@@ -76,8 +77,11 @@ fn glance_at_row(
     if count_of(counts, one_tag) as usize <= first {
         return Glance { sound: false, near };
     }
+    if count_of(counts, other_tag) as usize <= second {
+        return Glance { sound: false, near };
+    }
     Glance {
-        sound: second < count_of(counts, other_tag) as usize,
+        sound: is_under(counts, numbers, tag, one_tag, to, first),
         near: Near { first, second },
     }
 }

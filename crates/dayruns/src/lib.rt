@@ -1,5 +1,6 @@
 // The fields of one tag in a file or in a list of entries, taken one after another and tested, opened.
 mod body;
+mod caps;
 mod glance;
 mod key;
 mod kind;

@@ -12,7 +12,7 @@ ghost use Prim.Native.Nat.{_+_, _*_, _≤_, _<_};
 ghost use lib.ListN.{length};
 ghost use Rattle.columns.specs.Column.{col};
 ghost use Rattle.dayformat.specs.Layout.{count, table-start};
-ghost use Rattle.dayrows.specs.Test.{lists};
+ghost use Rattle.dayrows.specs.Test.{keyed, lists};
 ghost use Rattle.dayruns.specs.Private.{Same, KeysInside};
 
 // The rows in which a row's first and second name were found: an entry's first is its point, its second its shipper.
@@ -120,7 +120,7 @@ fn is_same(numbers: &[usize], key: usize, one: usize, other: usize) -> bool
 // The first row of a table, from one on, that has the key at a place, or a row past the last.
 pub fn row_keyed_from(counts: Counts, numbers: &[usize], tag: Tag, at: usize, from: usize) -> usize
     requires { ⌜ KeysInside counts tag at (now numbers) ⌝ }
-    ensures { λ r. ⌜ (r < count counts tag → lists counts (col (now (numbers .entry))) tag at ≡ true) ⌝ }
+    ensures { λ r. ⌜ (r < count counts tag → keyed counts (col (now (numbers .entry))) tag at r ≡ true) ⌝ }
 {
     let form = form_of(tag);
     let start = row_place(counts, tag, 0);

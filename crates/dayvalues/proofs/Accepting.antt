@@ -13,6 +13,7 @@ use Rattle.dayformat.specs.declared.form.Tag.{Tag}
 use Rattle.dayformat.specs.declared.form.Tag.the-variants.{Shipper}
 use Rattle.dayformat.specs.declared.layout.Counts.{Counts}
 use Rattle.dayformat.specs.Format.{name, gigajoules, _of_, form}
+use Rattle.dayformat.specs.Layout.{count}
 use Rattle.dayformat.proofs.Bodies.{among}
 use Rattle.dayvalues.specs.Row.{beyond, row-check}
 use Rattle.dayvalues.specs.Column.{column-check}
@@ -20,13 +21,16 @@ use Rattle.dayvalues.specs.Private.{Fillable}
 use Rattle.dayvalues.proofs.Bounds.{gigajoules-most}
 use Rattle.dayvalues.proofs.Rows.{none-beyond}
 
+pub row-inside : (counts : Counts) (numbers : List ℕ) (tag : Tag) (row : ℕ) → row-check counts numbers tag row ≡ Check.Accepted
+    → row < count counts tag
+unfolding row-check
+row-inside counts numbers tag row e = ltb-true _ _ (kept _ _ (both-accepted _ _ (both-accepted _ _ e .0) .1))
+
 pub row-accepted : (counts : Counts) (numbers : List ℕ) (tag : Tag) (row : ℕ) → row-check counts numbers tag row ≡ Check.Accepted
     → (place : ℕ) → place < form tag .columns → beyond counts (col numbers) tag row place ≡ false
 unfolding row-check
 row-accepted counts numbers tag row e =
-    let clear = both-accepted _ _ e in
-    let inside = both-accepted _ _ (clear .0) in
-    none-beyond counts (col numbers) tag row (ltb-true _ _ (kept _ _ (inside .1))) (cleared _ _ _ (clear .1))
+    none-beyond counts (col numbers) tag row (row-inside counts numbers tag row e) (cleared _ _ _ (both-accepted _ _ e .1))
 
 pub column-accepted : (counts : Counts) (numbers : List ℕ) (place : ℕ) (lent : List ℕ) → 1 ≤ place → place < 6
     → column-check counts numbers place (length lent) ≡ Check.Accepted → Fillable counts (col numbers) place lent

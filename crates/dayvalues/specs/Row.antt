@@ -5,6 +5,7 @@ use Prim.Native.Nat.{ℕ, _+_}
 use lib.Dec.{ltb, eqb}
 use lib.ListN.{length}
 use Rattle.columns.specs.Column.{col}
+use Rattle.columns.specs.First.{first}
 use Rattle.units.specs.declared.refusal.Check.{Check}
 use Rattle.units.specs.Refusals.{_then_, keep, clear}
 use Rattle.dayformat.specs.declared.form.Tag.{Tag}
@@ -25,6 +26,10 @@ beyond counts numbers tag row place = not (in-bounds (column-in (body tag) place
 -- the row, where one of its numbers is; else the number of rows
 unfoldable pub beyond-row : Counts → (ℕ → ℕ) → Tag → ℕ → ℕ
 beyond-row counts numbers tag row = cond (bounded numbers tag (row-start counts tag row)) (count counts tag) row
+
+-- the first row of a table that begins with a number, or the number of rows
+abbrev pub row-beginning : Counts → (ℕ → ℕ) → Tag → ℕ → ℕ
+row-beginning counts numbers tag number = first (count counts tag) (λ row. eqb (number-at counts numbers tag row 0) number)
 
 -- refused: 9 not as many numbers as the counts say; 3 a count, a row beyond its count, one of its numbers
 unfoldable pub row-check : Counts → List ℕ → Tag → ℕ → Check

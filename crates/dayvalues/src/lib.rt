@@ -13,5 +13,6 @@ pub use points::PointRow;
 pub use points::point_at;
 pub use row::check_row;
 pub use row::number_at;
+pub use row::row_beginning;
 pub use shippers::ShipperRow;
 pub use shippers::shipper_at;

@@ -10,7 +10,7 @@ use dayrows::number_of;
 use units::Check;
 ghost use mathlib.Core.Path.{_≡_};
 ghost use Rattle.columns.specs.Column.{col};
-ghost use Rattle.dayvalues.specs.Row.{number-at, beyond, beyond-row, row-check};
+ghost use Rattle.dayvalues.specs.Row.{number-at, beyond, beyond-row, row-beginning, row-check};
 
 // The number at a place of a row, 0 past the list.
 pub fn number_at(counts: Counts, numbers: &[usize], tag: Tag, row: u32, place: u32) -> usize
@@ -47,6 +47,21 @@ fn beyond_row(counts: Counts, numbers: &[usize], tag: Tag, row: u32) -> u32
         place += 1;
     }
     count_of(counts, tag)
+}
+
+// The first row of a table that begins with a number, or the number of rows.
+pub fn row_beginning(counts: Counts, numbers: &[usize], tag: Tag, number: u32) -> u32
+    ensures { λ r. ⌜ r ≡ row-beginning counts (col (now (numbers .entry))) tag number ⌝ }
+{
+    let rows = count_of(counts, tag);
+    let mut row = 0;
+    while row < rows {
+        if number_at(counts, numbers, tag, row, 0) == number as usize {
+            return row;
+        }
+        row += 1;
+    }
+    row
 }
 
 // The first test that a row fails.

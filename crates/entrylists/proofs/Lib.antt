@@ -5,3 +5,4 @@ pub mod SideParts
 pub mod Parts
 pub mod FileEntries
 pub mod Splitting
+pub mod EntryRows

@@ -3,7 +3,7 @@ use mathlib.Core.Path.{_≡_, _∙_}
 use Prim.Native.Nat.{ℕ, _-_, _*_, _^_, _≤_, _<_, max}
 use native.Mathlib.Omega.{arith}
 use Rattle.columns.specs.Sum.{sum}
-use Rattle.columns.proofs.Sums.{sum-bound, Adding, adding-bound, adding-all}
+use Rattle.columns.proofs.Sums.{sum-mono, sum-bound, Adding, adding-bound, adding-all}
 use Rattle.units.specs.Bound.{most-hour}
 use Rattle.excesses.specs.Hourly.{hourly}
 
@@ -37,3 +37,10 @@ module _ (delivered received : ℕ → ℕ) (most-delivered most-received : ℕ)
 
     pub hours-most : (n : ℕ) → sum n greater-excess ≤ n * most-hour
     hours-most n = sum-bound n greater-excess most-hour (λ hour l. hour-most hour)
+
+-- less gas in an hour never raises the hourly overrun
+pub hourly-mono : (m : ℕ) (delivered received more-delivered more-received : ℕ → ℕ)
+    → ((hour : ℕ) → delivered hour ≤ more-delivered hour) → ((hour : ℕ) → received hour ≤ more-received hour)
+    → hourly m delivered received ≤ hourly m more-delivered more-received
+hourly-mono m delivered received more-delivered more-received d r =
+    sum-mono 24 _ _ (λ hour l. omega (arith, d hour, r hour))

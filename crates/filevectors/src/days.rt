@@ -46,14 +46,15 @@ fn put_day(day: Day) {
             counts.points as u64,
             counts.entries as u64,
             counts.meters as u64,
+            counts.excused as u64,
         ],
     );
 }
 
 pub fn answer_writing(case: &[u8]) {
     let mut lent = [LENT_BYTE; MOST_BYTES];
-    let room = lesser(word(case, 7) as usize, MOST_BYTES);
-    let halves = past(case, 8);
+    let room = lesser(word(case, 8) as usize, MOST_BYTES);
+    let halves = past(case, 9);
     let lower = bytes(halves);
     let numbers = numbers_of(bytes(past_bytes(halves)), lower);
     let count = lesser(lower.len() / 4, MOST_NUMBERS);
@@ -81,6 +82,7 @@ fn day_of(case: &[u8]) -> Day {
             points: word(case, 4),
             entries: word(case, 5),
             meters: word(case, 6),
+            excused: word(case, 7),
         },
     }
 }

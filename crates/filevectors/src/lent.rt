@@ -46,7 +46,7 @@ fn put_kept(count: usize) {
 }
 
 fn written_numbers(lent: &[usize; MOST_NUMBERS], room: usize) -> usize
-    ensures { λ r. ⌜ (r ≤ room) × (r ≤ 6881) ⌝ }
+    ensures { λ r. ⌜ (r ≤ room) × (r ≤ 10721) ⌝ }
 {
     let mut written = lesser(room, MOST_NUMBERS);
     while 0 < written && lent[written - 1] == LENT_NUMBER {
@@ -56,7 +56,7 @@ fn written_numbers(lent: &[usize; MOST_NUMBERS], room: usize) -> usize
 }
 
 fn written_bytes(lent: &[u8; MOST_BYTES], room: usize) -> usize
-    ensures { λ r. ⌜ (r ≤ room) × (r ≤ 25552) ⌝ }
+    ensures { λ r. ⌜ (r ≤ room) × (r ≤ 40976) ⌝ }
 {
     let mut written = lesser(room, MOST_BYTES);
     while 0 < written && lent[written - 1] == LENT_BYTE {

@@ -24,12 +24,12 @@ use Rattle.dayfile.specs.declared.reader.Reading.{Reading}
 use Rattle.dayfile.specs.declared.reader.Reading.the-variants as Reading
 use Rattle.dayfile.specs.File.{tables, walked}
 use Rattle.dayfile.specs.Answer.{ReadingAnswered, day-of, reading-check}
-use Rattle.dayfile.proofs.Reaching.{numbers-most}
+use Rattle.dayfile.proofs.Reaching.{full-room, numbers-most}
 use Rattle.dayfile.proofs.FileAgain.{read-sound}
 use Rattle.dayfile.proofs.Told.{told, none, lent-room, taken-numbers}
 
 -- ---- a refusal
-module _ (file lent after : List ℕ) (room : length lent ≡ 6_880) (x : Refusal)
+module _ (file lent after : List ℕ) (room : length lent ≡ full-room) (x : Refusal)
     (R : ReadingAnswered file lent after (Reading.Refused x)) where
   abbrev is-refused : Reading → Bool
   is-refused (Reading.Refused refusal) = true

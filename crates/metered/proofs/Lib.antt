@@ -1,3 +1,4 @@
 pub mod Rows
 pub mod Accepting
 pub mod Decided
+pub mod Comparing

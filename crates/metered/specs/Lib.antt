@@ -1,3 +1,4 @@
 pub mod Hours
 pub mod Singles
+pub mod Excused
 pub mod Private

@@ -1,7 +1,12 @@
-// The figures of a shipper's day, hours and single figures, and whether they are within their bounds.
+// The figures of a shipper's day, hours and single figures, and whether they are within their bounds; hours compared with a limit.
+mod excused;
 mod hours;
 mod singles;
 
+pub use excused::compared_hours;
+pub use excused::examine_excused;
+pub use excused::examine_excused_hours;
+pub use excused::excess;
 pub use hours::bare_hours;
 pub use hours::both_days;
 pub use hours::examine_hours;

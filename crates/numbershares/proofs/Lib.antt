@@ -4,3 +4,4 @@ pub mod Answers
 pub mod Decided
 pub mod Determined
 pub mod SharesAccept
+pub mod Earlier

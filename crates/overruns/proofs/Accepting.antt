@@ -1,33 +1,50 @@
 -- What acceptance says, a routine at a time.
 use mathlib.Core.Path.{_≡_}
 use mathlib.Core.List.{List, _++_}
-use Prim.Native.Nat.{ℕ}
+use Prim.Native.Nat.{ℕ, _≤_}
 use borrow.Author.Tests.{eqb-true}
 use lib.ListN.{length}
+use Rattle.columns.specs.Column.{col}
 use Rattle.units.specs.declared.Gigajoules.{Gigajoules}
 use Rattle.units.specs.declared.Megajoules.{Megajoules}
 use Rattle.units.specs.declared.refusal.Check.{Check}
-use Rattle.units.proofs.Checks.{both-accepted, kept}
+use Rattle.units.proofs.Checks.{both-accepted, kept, accepts-both}
 use Rattle.metered.specs.declared.Side.{Side}
-use Rattle.metered.specs.Hours.{bare-hours, delivered}
+use Rattle.metered.specs.Hours.{bare-hours, delivered, received}
+use Rattle.metered.specs.Excused.{compared}
 use Rattle.metered.specs.Private.{Within, Rows-within, Backhaul-within}
 use Rattle.metered.proofs.Accepting.{both-within, hours-within, rows-within, backhaul-within}
+use Rattle.metered.proofs.Comparing.{compared-within, accepts-excused, accepts-excused-hours}
 use Rattle.overruns.specs.Hourly.{hourly-check}
-use Rattle.overruns.specs.TwelveHourly.{twelve-hourly-check}
 use Rattle.overruns.specs.Daily.{daily-check}
-use Rattle.overruns.specs.Day.{ShipperDay, day-check}
+use Rattle.overruns.specs.Day.{ShipperDay, Hours, day-check}
+use Rattle.overruns.specs.Excused.{excused-hourly-check, excused-twelve-hourly-check}
+use Rattle.overruns.specs.Excused.{Excused, hours-in, hours-compared, excused-day-check}
 
-pub hourly-accepting : (m : Gigajoules) (hours : List (List Megajoules)) → hourly-check m hours ≡ Check.Accepted → Rows-within hours
-unfolding hourly-check
-hourly-accepting m hours e = rows-within hours (both-accepted _ _ e .1)
+-- both sides' hours compared are within the bound of those metered
+rows-compared : (hours excused : List (List Megajoules)) → Rows-within hours
+    → Within (compared (delivered hours) (delivered excused)) × Within (compared (received hours) (received excused))
+rows-compared hours excused low =
+    (compared-within (delivered hours) (delivered excused) (low .0), compared-within (received hours) (received excused) (low .1))
 
-pub twelve-hourly-accepting : (p m : Gigajoules) (hours : List ℕ) → twelve-hourly-check p m hours ≡ Check.Accepted
-    → (length hours ≡ 35) × Within hours
-unfolding twelve-hourly-check
-twelve-hourly-accepting p m hours e =
-    let within = both-accepted _ _ e in
+pub hourly-accepting : (m : Gigajoules) (hours excused : List (List Megajoules))
+    → excused-hourly-check m hours excused ≡ Check.Accepted
+    → Within (compared (delivered hours) (delivered excused)) × Within (compared (received hours) (received excused))
+unfolding hourly-check excused-hourly-check
+hourly-accepting m hours excused e = rows-compared hours excused (rows-within hours (both-accepted _ _ (both-accepted _ _ e .0) .1))
+
+pub twelve-hourly-accepting : (p m : Gigajoules) (hours excused : List ℕ) → excused-twelve-hourly-check p m hours excused ≡ Check.Accepted
+    → (length hours ≡ 35) × (length excused ≡ 35) × Within (compared hours excused)
+unfolding excused-twelve-hourly-check
+twelve-hourly-accepting p m hours excused e =
+    let within = both-accepted _ _ (both-accepted _ _ e .0) in
     let mdqs = both-accepted _ _ (within .0) in
-    let long = both-accepted _ _ (mdqs .0) in (eqb-true _ _ (kept _ _ (long .1)), hours-within hours (within .1))
+    let long-excused = both-accepted _ _ (mdqs .0) in
+    let long = both-accepted _ _ (long-excused .0) in (
+      eqb-true _ _ (kept _ _ (long .1)),
+      eqb-true _ _ (kept _ _ (long-excused .1)),
+      compared-within hours excused (hours-within hours (within .1)),
+    )
 
 pub daily-accepting : (hours : List (List Megajoules)) (receipt delivery : Side) → daily-check hours receipt delivery ≡ Check.Accepted
     → Rows-within hours × Backhaul-within receipt delivery
@@ -53,3 +70,35 @@ day-accepting D e =
       rows = rows;
       backhaul = backhaul-within (D .receipt) (D .delivery) (sides .1);
     }
+
+-- ---- of a day with hours excused
+module _ (D : ShipperDay) (E : Excused) where
+  abbrev pub compared-day : Hours
+  compared-day = hours-compared (hours-in (D .yesterday) (D .hours)) (hours-in (E .yesterday) (E .hours))
+
+  pub record ExcusedAccepting : Type 0 where
+    pub both-days : Within (compared-day .both-days)
+    pub rows : Within (compared-day .delivered) × Within (compared-day .received)
+    pub metered : DayAccepting D
+
+  pub excused-day-accepting : excused-day-check D E ≡ Check.Accepted → ExcusedAccepting
+  unfolding excused-day-check
+  excused-day-accepting e =
+      let a = day-accepting D (both-accepted _ _ (both-accepted _ _ e .0) .0) in
+      let metered = hours-in (D .yesterday) (D .hours) in
+      record {
+        both-days = compared-within (metered .both-days) (hours-in (E .yesterday) (E .hours) .both-days) (a .both-days);
+        rows = rows-compared (D .hours) (E .hours) (a .rows);
+        metered = a;
+      }
+
+  -- what is excused within what was metered is accepted where the day is
+  pub excused-accepts : day-check D ≡ Check.Accepted
+      → ((hour : ℕ) → col (bare-hours (E .yesterday)) hour ≤ col (bare-hours (D .yesterday)) hour)
+      → ((hour : ℕ) → col (delivered (E .hours)) hour ≤ col (delivered (D .hours)) hour)
+      → ((hour : ℕ) → col (received (E .hours)) hour ≤ col (received (D .hours)) hour)
+      → excused-day-check D E ≡ Check.Accepted
+  unfolding excused-day-check
+  excused-accepts accepted y d r =
+      accepts-both (accepts-both accepted (accepts-excused (bare-hours (D .yesterday)) (bare-hours (E .yesterday)) y))
+      (accepts-excused-hours (D .hours) (E .hours) d r)

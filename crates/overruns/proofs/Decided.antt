@@ -2,42 +2,46 @@
 use mathlib.Core.Path.{_≡_, refl}
 use mathlib.Core.List.{List}
 use Prim.Native.Nat.{ℕ}
-use Rattle.columns.specs.Column.{col}
 use Rattle.units.specs.declared.Gigajoules.{Gigajoules}
 use Rattle.units.specs.declared.Megajoules.{Megajoules}
 use Rattle.units.specs.Verdict.{Decided}
 use Rattle.units.proofs.Verdicts.{AllNumbered, none, _and_, kept-by, cleared-by, decided}
-use Rattle.excesses.specs.Hourly.{hourly}
-use Rattle.excesses.specs.TwelveHourly.{twelve-hourly}
 use Rattle.metered.specs.declared.Side.{Side}
-use Rattle.metered.specs.Hours.{delivered, received}
-use Rattle.metered.proofs.Decided.{rows-numbered, mdqs-numbered, sides-numbered}
+use Rattle.metered.specs.Hours.{bare-hours, delivered, received}
+use Rattle.metered.proofs.Decided.{rows-numbered, mdqs-numbered, sides-numbered, excused-numbered, excused-hours-numbered}
 use Rattle.overruns.specs.declared.Overrun.{Overrun}
 use Rattle.overruns.specs.declared.daily.DailyOverruns.{DailyOverruns}
 use Rattle.overruns.specs.declared.day.DayOverruns.{DayOverruns}
 use Rattle.overruns.specs.Answers.{overrun-answer, overrun-verdict}
-use Rattle.overruns.specs.Hourly.{hourly-check, hourly-answer}
-use Rattle.overruns.specs.TwelveHourly.{twelve-hourly-check, twelve-hourly-answer}
+use Rattle.overruns.specs.Hourly.{hourly-check}
 use Rattle.overruns.specs.Daily.{both-daily, daily-check, daily-where, daily-answer, daily-verdict}
-use Rattle.overruns.specs.Day.{ShipperDay, day-overruns, day-check, day-where, day-answer, day-verdict}
+use Rattle.overruns.specs.Day.{ShipperDay, with-greatest, day-overruns, day-check, day-where, day-answer, day-verdict}
+use Rattle.overruns.specs.Excused.{excused-hourly-check, excused-hourly, excused-hourly-answer}
+use Rattle.overruns.specs.Excused.{excused-twelve-hourly-check, excused-twelve-hourly, excused-twelve-hourly-answer}
+use Rattle.overruns.specs.Excused.{Excused, excused-day-check, excused-day-overruns, excused-day-answer}
 
-module _ (m : Gigajoules) (hours : List (List Megajoules)) where
-  pub hourly-numbered : AllNumbered (hourly-check m hours)
-  unfolding hourly-check
-  hourly-numbered = none and kept-by _ 3 tt tt and rows-numbered hours
+module _ (m : Gigajoules) (hours excused : List (List Megajoules)) where
+  pub hourly-numbered : AllNumbered (excused-hourly-check m hours excused)
+  unfolding hourly-check excused-hourly-check
+  hourly-numbered = none and kept-by _ 3 tt tt and rows-numbered hours and excused-hours-numbered hours excused
 
-  pub hourly-decided : {over : Overrun} → over ≡ hourly-answer m hours
-      → Decided (hourly-check m hours) (record { 0 = hourly (m .0) (col (delivered hours)) (col (received hours)) }) (record { 0 = 0 })
-      (overrun-verdict over)
+  pub hourly-decided : {over : Overrun} → over ≡ excused-hourly-answer m hours excused
+      → Decided (excused-hourly-check m hours excused) (excused-hourly m hours excused) (record { 0 = 0 }) (overrun-verdict over)
   hourly-decided = decided overrun-answer overrun-verdict refl (λ refusal. refl) hourly-numbered
 
-module _ (p m : Gigajoules) (hours : List ℕ) where
-  pub twelve-hourly-numbered : AllNumbered (twelve-hourly-check p m hours)
-  unfolding twelve-hourly-check
-  twelve-hourly-numbered = none and kept-by _ 9 tt tt and mdqs-numbered p m and cleared-by _ _ 3 tt tt
+module _ (p m : Gigajoules) (hours excused : List ℕ) where
+  pub twelve-hourly-numbered : AllNumbered (excused-twelve-hourly-check p m hours excused)
+  unfolding excused-twelve-hourly-check
+  twelve-hourly-numbered =
+      none
+      and kept-by _ 9 tt tt
+      and kept-by _ 9 tt tt
+      and mdqs-numbered p m
+      and cleared-by _ _ 3 tt tt
+      and excused-numbered hours excused
 
-  pub twelve-hourly-decided : {over : Overrun} → over ≡ twelve-hourly-answer p m hours
-      → Decided (twelve-hourly-check p m hours) (record { 0 = twelve-hourly (p .0) (m .0) (col hours) }) (record { 0 = 0 })
+  pub twelve-hourly-decided : {over : Overrun} → over ≡ excused-twelve-hourly-answer p m hours excused
+      → Decided (excused-twelve-hourly-check p m hours excused) (excused-twelve-hourly p m hours excused) (record { 0 = 0 })
       (overrun-verdict over)
   twelve-hourly-decided = decided overrun-answer overrun-verdict refl (λ refusal. refl) twelve-hourly-numbered
 
@@ -57,13 +61,17 @@ module _ (D : ShipperDay) where
   day-numbered = mdqs-numbered _ _ and sides-numbered _ _ and cleared-by _ _ 3 tt tt and rows-numbered _
 
   pub day-decided : {over : DayOverruns} → over ≡ day-answer D
-      → Decided (day-check D) (day-overruns D)
-      (record {
-        hourly = record { 0 = 0 };
-        «twelve_hourly» = record { 0 = 0 };
-        «daily_receipt» = record { 0 = 0 };
-        «daily_delivery» = record { 0 = 0 };
-        greatest = record { 0 = 0 };
-      })
-      (day-verdict over)
+      → Decided (day-check D) (day-overruns D) (with-greatest 0 0 0 0) (day-verdict over)
   day-decided = decided day-where day-verdict refl (λ refusal. refl) day-numbered
+
+  module _ (E : Excused) where
+    pub excused-day-numbered : AllNumbered (excused-day-check D E)
+    unfolding excused-day-check
+    excused-day-numbered =
+        day-numbered
+        and excused-numbered (bare-hours (D .yesterday)) (bare-hours (E .yesterday))
+        and excused-hours-numbered (D .hours) (E .hours)
+
+    pub excused-day-decided : {over : DayOverruns} → over ≡ excused-day-answer D E
+        → Decided (excused-day-check D E) (excused-day-overruns D E) (with-greatest 0 0 0 0) (day-verdict over)
+    excused-day-decided = decided day-where day-verdict refl (λ refusal. refl) excused-day-numbered

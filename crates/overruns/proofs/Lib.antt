@@ -5,5 +5,7 @@ pub mod Accepting
 pub mod Answers
 pub mod WholeDay
 pub mod Decided
+pub mod Nothing
+pub mod Worked
 pub mod Promises
 pub mod AddedPeriods

@@ -1,39 +1,60 @@
 -- A shipper's whole day: the answer from what was found, and the four overruns as one.
-use mathlib.Core.Path.{_≡_, sym, _∙_}
-use mathlib.Core.List.{List, _++_}
+use mathlib.Core.Path.{_≡_, ap, sym, _∙_}
+use mathlib.Core.List.{List, [], _++_}
 use Prim.Native.Nat.{ℕ}
+use lib.ListN.{length, getD}
+use Rattle.columns.specs.Column.{col}
 use Rattle.units.specs.declared.refusal.Refusal.{Refusal}
 use Rattle.units.specs.declared.refusal.Check.{Check}
+use Rattle.excesses.specs.Hourly.{hourly}
+use Rattle.excesses.specs.TwelveHourly.{twelve-hourly}
 use Rattle.excesses.specs.Greatest.{greatest}
-use Rattle.metered.specs.Hours.{bare-hours, delivered}
+use Rattle.metered.specs.Hours.{bare-hours, delivered, received}
+use Rattle.metered.specs.Excused.{compared, compared-hours}
 use Rattle.metered.specs.Private.{Within, Rows-within, Backhaul-within}
+use Rattle.metered.proofs.Comparing.{length-compared}
 use Rattle.overruns.specs.declared.day.Overruns.{Overruns}
 use Rattle.overruns.specs.declared.day.DayOverruns.{DayOverruns}
-use Rattle.overruns.specs.Day.{ShipperDay, with-greatest, all-compared, day-check, day-answer}
-use Rattle.overruns.proofs.Accepting.{day-accepting}
+use Rattle.overruns.specs.Daily.{daily}
+use Rattle.overruns.specs.Day.{ShipperDay, with-greatest}
+use Rattle.overruns.specs.Excused.{Excused, excused-day-check, excused-day-answer}
+use Rattle.overruns.proofs.Accepting.{excused-day-accepting}
 
--- ---- the day is tested, its delivered hours joined to yesterday's
+-- ---- the day is tested, its delivered hours joined to yesterday's, and so those excused
 pub record Tested : Type 0 where
   pub D : ShipperDay
+  pub E : Excused
   pub both : List ℕ
   pub joined : both ≡ bare-hours (D .yesterday) ++ delivered (D .hours)
+  pub excused-both : List ℕ
+  pub excused-joined : excused-both ≡ bare-hours (E .yesterday) ++ delivered (E .hours)
   pub found : Check
-  pub checked : found ≡ day-check D
+  pub checked : found ≡ excused-day-check D E
 
 module _ (T : Tested) where
-  open Tested T using (D, both, joined, found, checked)
+  open Tested T using (D, E, both, joined, excused-both, excused-joined, found, checked)
 
-  pub day-refused : {x : Refusal} → found ≡ Check.Refused x → DayOverruns.Refused x ≡ day-answer D
+  pub day-refused : {x : Refusal} → found ≡ Check.Refused x → DayOverruns.Refused x ≡ excused-day-answer D E
   day-refused e = rw (← checked, e)
 
-  module _ (accepted : found ≡ Check.Accepted) where
-    pub day-fits : Within both × (Rows-within (D .hours) × Backhaul-within (D .receipt) (D .delivery))
-    day-fits =
-        let a = day-accepting D (sym checked ∙ accepted) in (rw joined (a .both-days), (a .rows, a .backhaul))
+  module _ (accepted : found ≡ Check.Accepted) {days : List ℕ} {rows : List (List ℕ)}
+      (less-days : days ≡ compared both excused-both) (less-rows : rows ≡ compared-hours (D .hours) (E .hours)) where
+    pub day-fits : length both ≡ 35
+        → ((length days ≡ 35) × Within days)
+        × ((Within (getD rows 0 []) × Within (getD rows 1 [])) × (Rows-within (D .hours) × Backhaul-within (D .receipt) (D .delivery)))
+    day-fits long =
+        let a = excused-day-accepting D E (sym checked ∙ accepted) in (
+          (ap length less-days ∙ length-compared both excused-both ∙ long, rw (less-days, joined, excused-joined) (a .both-days)),
+          (rw less-rows (a .rows), (a .metered .rows, a .metered .backhaul)),
+        )
 
-    pub day-over : {x : Overruns} → x ≡ all-compared (D .p) (D .m) both (D .hours) (D .receipt) (D .delivery)
-        → DayOverruns.Over x ≡ day-answer D
-    day-over e = rw (← checked, accepted, e, joined)
+    pub day-over : {x : Overruns}
+        → x ≡ with-greatest (hourly (D .m .0) (col (getD rows 0 [])) (col (getD rows 1 [])))
+        (twelve-hourly (D .p .0) (D .m .0) (col days))
+        (daily (col (received (D .hours))) (D .receipt))
+        (daily (col (delivered (D .hours))) (D .delivery))
+        → DayOverruns.Over x ≡ excused-day-answer D E
+    day-over e = rw (← checked, accepted, e, less-days, less-rows, joined, excused-joined)
 
 -- ---- the four as one answer
 module _ (x : Overruns) (hourly twelve-hourly receipt delivery : ℕ) where

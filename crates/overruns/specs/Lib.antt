@@ -3,4 +3,5 @@ pub mod Hourly
 pub mod Daily
 pub mod TwelveHourly
 pub mod Day
+pub mod Excused
 pub mod Promise

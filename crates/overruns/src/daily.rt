@@ -1,9 +1,9 @@
-use crate::gas::excess;
 use crate::gas::gas_of;
 use metered::Side;
 use metered::bare_hours;
 use metered::examine_hours;
 use metered::examine_sides;
+use metered::excess;
 use units::Check;
 use units::Megajoules;
 use units::Refusal;

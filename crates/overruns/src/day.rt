@@ -1,8 +1,12 @@
 use crate::daily::both_daily;
 use crate::hourly::hourly;
+use crate::twelve_hourly::compared_days;
 use crate::twelve_hourly::twelve_hourly;
 use metered::Side;
 use metered::both_days;
+use metered::compared_hours;
+use metered::examine_excused;
+use metered::examine_excused_hours;
 use metered::examine_hours;
 use metered::examine_mdqs;
 use metered::examine_sides;
@@ -13,9 +17,16 @@ use units::Megajoules;
 use units::Refusal;
 use units::greater;
 ghost use mathlib.Core.Path.{_≡_};
-ghost use lib.ListN.{length};
+ghost use mathlib.Core.List.{[]};
+ghost use lib.ListN.{length, getD};
+ghost use Rattle.columns.specs.Column.{col};
+ghost use Rattle.excesses.specs.Hourly.{hourly};
+ghost use Rattle.excesses.specs.TwelveHourly.{twelve-hourly};
+ghost use Rattle.metered.specs.Hours.{delivered, received};
 ghost use Rattle.metered.specs.Private.{Within, Rows-within, Backhaul-within};
-ghost use Rattle.overruns.specs.Day.{all-compared, day-answer};
+ghost use Rattle.overruns.specs.Daily.{daily};
+ghost use Rattle.overruns.specs.Day.{with-greatest};
+ghost use Rattle.overruns.specs.Excused.{excused-day-answer};
 
 // The four overruns of a shipper's day, and the greatest of them.
 pub struct Overruns {
@@ -32,22 +43,29 @@ pub enum DayOverruns {
     Refused(Refusal),
 }
 
-// All four overruns, with the 35 delivered hours of both days, and the greatest.
+// All four overruns and the greatest: hourly and twelve-hourly from the hours compared, the 35 of both days and both sides' of today,
+// daily from the hours metered.
 fn four_overruns(
     p: Gigajoules,
     m: Gigajoules,
     both: &[u64],
-    hours: [[Megajoules; 24]; 2],
+    compared: [[u64; 24]; 2],
+    metered: [[Megajoules; 24]; 2],
     receipt: Side,
     delivery: Side,
 ) -> Overruns
     requires { ⌜ (length (now both) ≡ 35) × Within (now both) ⌝ }
-    requires { ⌜ Rows-within hours × Backhaul-within receipt delivery ⌝ }
-    ensures { λ r. ⌜ r ≡ all-compared p m (now (both .entry)) hours receipt delivery ⌝ }
+    requires { ⌜ Within (getD compared 0 []) × Within (getD compared 1 []) ⌝ }
+    requires { ⌜ Rows-within metered × Backhaul-within receipt delivery ⌝ }
+    ensures { λ r. ⌜ r ≡ with-greatest
+        (hourly (m .0) (col (getD compared 0 [])) (col (getD compared 1 [])))
+        (twelve-hourly (p .0) (m .0) (col (now (both .entry))))
+        (daily (col (received metered)) receipt)
+        (daily (col (delivered metered)) delivery) ⌝ }
 {
-    let over_hours = hourly(m, hours);
+    let over_hours = hourly(m, compared);
     let over_periods = twelve_hourly(p, m, both);
-    let daily = both_daily(hours, receipt, delivery);
+    let daily = both_daily(metered, receipt, delivery);
     let daily_receipt = daily.receipt;
     let daily_delivery = daily.delivery;
     Overruns {
@@ -62,7 +80,8 @@ fn four_overruns(
     }
 }
 
-// The overruns of a shipper's day, from a tag 5 field's figures: P, M, yesterday's 11 hours, today's two rows, both sides' single ones.
+// The overruns of a shipper's day, from a tag 5 field's figures: P, M, yesterday's 11 hours, today's two rows, both sides' single ones;
+// and from what is excused of the hours (cl. 5.4).
 pub fn overruns_of_day(
     p: Gigajoules,
     m: Gigajoules,
@@ -70,17 +89,27 @@ pub fn overruns_of_day(
     hours: [[Megajoules; 24]; 2],
     receipt: Side,
     delivery: Side,
+    excused_yesterday: [Megajoules; 11],
+    excused_hours: [[Megajoules; 24]; 2],
 ) -> DayOverruns
-    ensures { λ r. ⌜ r ≡ day-answer
-        (record { p = p; m = m; yesterday = yesterday; hours = hours; receipt = receipt; delivery = delivery }) ⌝ }
+    ensures { λ r. ⌜ r ≡ excused-day-answer
+        (record { p = p; m = m; yesterday = yesterday; hours = hours; receipt = receipt; delivery = delivery })
+        (record { yesterday = «excused_yesterday»; hours = «excused_hours» }) ⌝ }
 {
     let both = both_days(yesterday, hours[0]);
+    let excused_both = both_days(excused_yesterday, excused_hours[0]);
     let found = examine_mdqs(p, m)
         .then(examine_sides(receipt, delivery))
         .megajoules_within(&both[..11], MOST_HOUR)
-        .then(examine_hours(hours));
+        .then(examine_hours(hours))
+        .then(examine_excused(&both[..11], &excused_both[..11]))
+        .then(examine_excused_hours(hours, excused_hours));
     match found {
         Check::Refused(refusal) => DayOverruns::Refused(refusal),
-        Check::Accepted => DayOverruns::Over(four_overruns(p, m, &both, hours, receipt, delivery)),
+        Check::Accepted => {
+            let compared = compared_days(&both, &excused_both);
+            let rows = compared_hours(hours, excused_hours);
+            DayOverruns::Over(four_overruns(p, m, &compared, rows, hours, receipt, delivery))
+        }
     }
 }

@@ -2,21 +2,11 @@ use units::Gigajoules;
 use units::Megajoules;
 use units::in_megajoules;
 ghost use mathlib.Core.Path.{_≡_};
-ghost use Prim.Native.Nat.{_-_, _*_, _^_, _≤_, _<_};
+ghost use Prim.Native.Nat.{_*_, _^_, _≤_, _<_};
 ghost use lib.ListN.{length};
 ghost use Rattle.columns.specs.Column.{col};
 ghost use Rattle.columns.specs.Sum.{sum};
 ghost use Rattle.metered.specs.Private.{Within};
-
-// What is above a limit.
-pub fn excess(gas: Megajoules, limit: Megajoules) -> Megajoules
-    ensures { λ r. ⌜ r .0 ≡ gas .0 - limit .0 ⌝ }
-{
-    if gas.0 < limit.0 {
-        return Megajoules(0);
-    }
-    Megajoules(gas.0 - limit.0)
-}
 
 // So many thousandths of an MDQ, as the clauses set their limits. One of them is whole, so that no division is left to do.
 pub fn thousandths(count: u64, mdq: Gigajoules) -> Megajoules

@@ -1,8 +1,9 @@
 use crate::Overrun;
-use crate::gas::excess;
 use crate::gas::gas_of;
 use crate::gas::thousandths;
+use metered::examine_excused;
 use metered::examine_mdqs;
+use metered::excess;
 use units::Check;
 use units::Gigajoules;
 use units::MOST_HOUR;
@@ -13,8 +14,9 @@ ghost use lib.ListN.{length};
 ghost use Rattle.columns.specs.Column.{col};
 ghost use Rattle.columns.specs.Sum.{sum};
 ghost use Rattle.metered.specs.Private.{Within};
+ghost use Rattle.metered.specs.Excused.{compared};
 ghost use Rattle.excesses.specs.TwelveHourly.{period-limit, twelve-hourly};
-ghost use Rattle.overruns.specs.TwelveHourly.{twelve-hourly-answer};
+ghost use Rattle.overruns.specs.Excused.{excused-twelve-hourly-answer};
 
 // The limit of the period that ends with hour h of today, whose first 12 − h hours are yesterday's.
 fn period_limit(p: Gigajoules, m: Gigajoules, h: u64) -> Megajoules
@@ -59,16 +61,40 @@ pub fn twelve_hourly(p: Gigajoules, m: Gigajoules, hours: &[u64]) -> Megajoules
     Megajoules(total)
 }
 
-// The twelve-hourly overrun from P and M, yesterday's and today's Adjusted MDQ, and 35 delivered hours, yesterday's 11 first.
-pub fn twelve_hourly_overrun(p: Gigajoules, m: Gigajoules, hours: &[u64]) -> Overrun
-    ensures { λ r. ⌜ r ≡ twelve-hourly-answer p m (now (hours .entry)) ⌝ }
+// Both days' 35 hours as they are compared with a period's limit: metered less excused.
+pub fn compared_days(metered: &[u64], excused: &[u64]) -> [u64; 35]
+    requires { ⌜ (length (now metered) ≡ 35) × (length (now excused) ≡ 35) ⌝ }
+    ensures { λ r. ⌜ r ≡ compared (now (metered .entry)) (now (excused .entry)) ⌝ }
+{
+    let mut hours = [0u64; 35];
+    for hour in 0..35usize {
+        let left = excess(Megajoules(metered[hour]), Megajoules(excused[hour]));
+        hours[hour] = left.0;
+    }
+    hours
+}
+
+// The twelve-hourly overrun from P and M, yesterday's and today's Adjusted MDQ, and 35 delivered hours, yesterday's 11 first, metered
+// and excused (cl. 5.4).
+pub fn twelve_hourly_overrun(
+    p: Gigajoules,
+    m: Gigajoules,
+    hours: &[u64],
+    excused: &[u64],
+) -> Overrun
+    ensures { λ r. ⌜ r ≡ excused-twelve-hourly-answer p m (now (hours .entry)) (now (excused .entry)) ⌝ }
 {
     let found = Check::Accepted
         .keep(hours.len() == 35, 9)
+        .keep(excused.len() == 35, 9)
         .then(examine_mdqs(p, m))
-        .megajoules_within(hours, MOST_HOUR);
+        .megajoules_within(hours, MOST_HOUR)
+        .then(examine_excused(hours, excused));
     match found {
         Check::Refused(refusal) => Overrun::Refused(refusal),
-        Check::Accepted => Overrun::Over(twelve_hourly(p, m, hours)),
+        Check::Accepted => {
+            let compared = compared_days(hours, excused);
+            Overrun::Over(twelve_hourly(p, m, &compared))
+        }
     }
 }

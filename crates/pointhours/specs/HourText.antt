@@ -1,10 +1,8 @@
 -- The lines of a point's entries: shipper and share; or the point's own refusal in their place.
 use mathlib.Core.List.{List, [], _∷_}
 use Prim.Native.Nat.{ℕ}
-use lib.Dec.{eqb}
 use lib.ListN.{length}
 use Rattle.columns.specs.Column.{listed, joined}
-use Rattle.columns.specs.First.{first}
 use Rattle.units.specs.declared.refusal.Check.{Check}
 use Rattle.units.specs.declared.refusal.Check.the-variants as Check
 use Rattle.pointshares.specs.Share.{hour-shares}
@@ -12,10 +10,9 @@ use Rattle.pointshares.specs.Answer.{hour-check}
 use Rattle.lines.specs.Line.{line, decimals, refused}
 use Rattle.dayformat.specs.declared.form.Tag.the-variants.{Shipper}
 use Rattle.dayformat.specs.declared.layout.Counts.{Counts}
-use Rattle.dayformat.specs.Layout.{count}
 use Rattle.dayvalues.specs.declared.column.ShipperColumn.the-variants.{FirmMdq}
+use Rattle.dayvalues.specs.Row.{row-beginning}
 use Rattle.dayvalues.specs.Column.{place-of, column}
-use Rattle.dayvalues.specs.Shippers.{shipper-of}
 
 -- a line for each of so many entries, shipper and share; or the point's own refusal in their place
 abbrev pub share-lines : Check → ℕ → (ℕ → ℕ) → (ℕ → ℕ) → List ℕ
@@ -31,7 +28,7 @@ hour-lines capacity many shipper entitlement mdq =
 
 -- the firm MDQ of a shipper's row
 abbrev pub shipper-row : Counts → (ℕ → ℕ) → ℕ → ℕ
-shipper-row counts numbers shipper = first (count counts Shipper) (λ row. eqb (shipper-of counts numbers row) shipper)
+shipper-row counts numbers shipper = row-beginning counts numbers Shipper shipper
 
 abbrev pub firm-mdq : Counts → (ℕ → ℕ) → ℕ → ℕ
 firm-mdq counts numbers shipper = column counts numbers (place-of FirmMdq) (shipper-row counts numbers shipper)

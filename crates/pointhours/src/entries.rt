@@ -11,7 +11,7 @@ use dayformat::Tag;
 ghost use mathlib.Core.Path.{_≡_};
 ghost use Prim.Native.Nat.{_≤_, _<_, min};
 ghost use Rattle.columns.specs.Column.{col};
-ghost use Rattle.pointhours.specs.HourText.{shipper-row, firm-mdq};
+ghost use Rattle.pointhours.specs.HourText.{firm-mdq};
 ghost use Rattle.pointhours.specs.Parts.{most-entries, most-number, entries-in, shipper-in, entitlement-in, mdq-in};
 ghost use Rattle.pointhours.specs.Private.{with-zeros};
 
@@ -49,26 +49,11 @@ fn entitlement_in(part: &[u8], entry: usize) -> u32
     number_at(part, entry * ENTRY_FIELD + ENTITLEMENT_PLACE, HOUR.width)
 }
 
-// The first row of the shipper table that is the shipper's, or the number of rows.
-fn shipper_row(counts: Counts, numbers: &[usize], shipper: u32) -> u32
-    ensures { λ r. ⌜ r ≡ shipper-row counts (col (now (numbers .entry))) shipper ⌝ }
-{
-    let rows = counts.shippers;
-    let mut row = 0;
-    while row < rows {
-        if dayvalues::number_at(counts, numbers, Tag::Shipper, row, 0) == shipper as usize {
-            return row;
-        }
-        row += 1;
-    }
-    row
-}
-
 // The firm MDQ of a shipper's row, as far as a u32 goes.
 fn firm_mdq(counts: Counts, numbers: &[usize], shipper: u32) -> u32
     ensures { λ r. ⌜ r ≡ min (firm-mdq counts (col (now (numbers .entry))) shipper) most-number ⌝ }
 {
-    let row = shipper_row(counts, numbers, shipper);
+    let row = dayvalues::row_beginning(counts, numbers, Tag::Shipper, shipper);
     let mdq = dayvalues::number_at(counts, numbers, Tag::Shipper, row, 1);
     lesser(mdq, MOST_NUMBER) as u32
 }

@@ -4,3 +4,4 @@ pub mod PartRead
 pub mod Points
 pub mod FileLists
 pub mod Sizes
+pub mod Earlier

@@ -1,13 +1,11 @@
 -- The fields of a point's entries, read back: how many there are, their shippers and entitlements; so their lines are the point's.
 use mathlib.Core.Path.{_≡_, refl, ap, ap₂, sym, _∙_}
-use mathlib.Core.Bool.{not}
 use mathlib.Core.List.{List, [], _∷_}
-use Prim.Native.Nat.{ℕ, min, _+_, _-_, _*_, _≤_, _<_}
+use Prim.Native.Nat.{ℕ, min, _+_, _*_, _≤_, _<_}
 use native.Mathlib.Omega.{arith}
 use lib.ListN.{length, take, drop}
 use lib.Seq.{drop-drop}
 use Rattle.columns.specs.Column.{col, listed}
-use Rattle.columns.proofs.Firsts.{first-le}
 use Rattle.columns.proofs.Lists.{listed-same}
 use Rattle.columns.proofs.Joined.{joined-same}
 use Rattle.units.specs.declared.refusal.Check.{Check}
@@ -29,7 +27,8 @@ use Rattle.pointhours.proofs.EntryPlaces.{shipper-here, entitlement-here}
 use Rattle.dayruns.specs.Run.{place-of, row-of}
 use Rattle.pointentries.specs.Entries.{entries}
 use Rattle.pointentries.proofs.EntryLists.{place-is}
-use Rattle.entrylists.specs.PointRows.{is-entry, first-row, many-rows, entry-number, point-fields}
+use Rattle.entrylists.specs.PointRows.{first-row, many-rows, entry-number, point-fields}
+use Rattle.entrylists.proofs.EntryRows.{rows-inside}
 use Rattle.entrylists.proofs.SideRuns.{number-again, list-long}
 use Rattle.pointlisting.specs.PointsText.{entry-lines}
 use Rattle.pointlisting.proofs.FirmMdqs.{firm-bounded}
@@ -45,7 +44,7 @@ module _ (capacity many : ℕ) (shipper entitlement mdq shipper′ entitlement�
     (shippers : (entry : ℕ) → entry < many → shipper entry ≡ shipper′ entry)
     (entitlements : (entry : ℕ) → entry < many → entitlement entry ≡ entitlement′ entry)
     (mdqs : (entry : ℕ) → entry < many → mdq entry ≡ mdq′ entry) where
-  hour-same : hour-lines capacity many shipper entitlement mdq ≡ hour-lines capacity many shipper′ entitlement′ mdq′
+  pub hour-same : hour-lines capacity many shipper entitlement mdq ≡ hour-lines capacity many shipper′ entitlement′ mdq′
   hour-same =
       ap₂ (λ entitlements mdqs.
       share-lines (hour-check capacity entitlements mdqs (length entitlements)) many shipper (hour-shares entitlements mdqs capacity))
@@ -88,12 +87,7 @@ module _ (day : Day) (numbers : List ℕ) (S : Sound day numbers) (side point : 
   part = point-fields (day .counts) (col numbers) side point
 
   inside : from + many ≤ count (day .counts) Entry
-  inside =
-      omega (
-        arith,
-        first-le (is-entry (day .counts) (col numbers) side point) (count (day .counts) Entry),
-        first-le (λ more. not (is-entry (day .counts) (col numbers) side point (from + more))) (count (day .counts) Entry - from),
-      )
+  inside = rows-inside (day .counts) (col numbers) side point
 
   many-in : entries-in part ≡ many
   many-in = rw entry-size (omega (arith, list-long day numbers S from many 0 inside, place-is part 0 many, inside, S .few Entry))

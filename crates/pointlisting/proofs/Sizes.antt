@@ -1,13 +1,11 @@
 -- Room for every listing of points: at most 32 points, each with its line and those of its hour.
 use mathlib.Core.Path.{_≡_, refl}
-use mathlib.Core.Bool.{Bool, not}
 use mathlib.Core.List.{List}
-use Prim.Native.Nat.{ℕ, _-_, _+_, _≤_, _<_}
+use Prim.Native.Nat.{ℕ, _+_, _≤_, _<_}
 use native.Mathlib.Nat.{le-refl}
 use native.Mathlib.Omega.{arith}
 use lib.ListN.{length, length-append}
 use Rattle.columns.specs.Column.{col, joined}
-use Rattle.columns.proofs.Firsts.{first-le}
 use Rattle.units.specs.declared.refusal.Check.the-variants.{Accepted}
 use Rattle.units.specs.Bound.{most-hour}
 use Rattle.lines.proofs.Sizes.{line-none, line-within, figure-within}
@@ -25,7 +23,8 @@ use Rattle.dayruns.proofs.Ending.{faultless}
 use Rattle.dayfile.specs.File.{tables, walked}
 use Rattle.dayfile.specs.Answer.{day-of}
 use Rattle.dayfile.proofs.FileAgain.{day-number, read-sound}
-use Rattle.entrylists.specs.PointRows.{is-entry, first-row, many-rows, entry-number}
+use Rattle.entrylists.specs.PointRows.{first-row, many-rows, entry-number}
+use Rattle.entrylists.proofs.EntryRows.{rows-inside}
 use Rattle.pointlisting.specs.PointsText.{point-word, day-line, point-line, entry-lines, point-lines, points-text, points-listing}
 
 -- ten digits for the day
@@ -45,10 +44,8 @@ module _ (day : Day) (numbers : List ℕ) (S : Sound day numbers) where
       → entry-number (day .counts) (col numbers) side point entry 2 ≤ 65_535
   unfolding column-in
   entry-shipper side point entry l =
-      let from = first-row (day .counts) (col numbers) side point in
-      let other : ℕ → Bool = λ more. not (is-entry (day .counts) (col numbers) side point (from + more)) in
-      let inside = first-le other (count (day .counts) Entry - from) in
-      sound-number day numbers S Entry refl (from + entry) (omega (arith, l, inside)) 2 (omega arith)
+      sound-number day numbers S Entry refl (first-row (day .counts) (col numbers) side point + entry)
+      (omega (arith, l, rows-inside (day .counts) (col numbers) side point)) 2 (omega arith)
 
   entries-most : (side point capacity : ℕ) → length (entry-lines (day .counts) (col numbers) side point capacity) ≤ 1_088
   entries-most side point capacity = hour-most capacity _ _ _ _ (entry-shipper side point)

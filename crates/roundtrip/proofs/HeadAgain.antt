@@ -24,6 +24,7 @@ use Rattle.dayrows.specs.declared.Test.{Test}
 use Rattle.dayrows.specs.declared.Test.the-variants.{Bounds, Key, Mdq}
 use Rattle.dayrows.specs.Test.{in-bounds, bounded, rises, names-listed, some-idle, passes, fault}
 use Rattle.dayrows.specs.Whole.{broken}
+use Rattle.dayrows.proofs.Capping.{uncapped}
 use Rattle.dayrows.proofs.Faults.{none-fault}
 use Rattle.dayrows.proofs.Breaking.{whole-none}
 use Rattle.dayruns.specs.Run.{place-of, rows-of, field-fault}
@@ -80,14 +81,18 @@ module _ (head : Head) (B : Bounded head) where
     head-passes : (test : Test) → passes test File no-rows (col (head-row head)) Tag.Head 0 ≡ true
     unfolding passes bounded rises names-listed some-idle sum
     head-passes Bounds =
-        rw (le-leb 3 _
-        (le-of-eq
-        (sym
-        (first-none (λ place. not
-        (in-bounds (column-in (body Tag.Head) place) (col (head-row head) (row-start no-rows Tag.Head 0 + place)))) 3
-        (λ place l.
-        let at : row-start no-rows Tag.Head 0 + place ≡ place = omega arith in
-        ap (λ k. not (in-bounds (column-in (body Tag.Head) place) (col (head-row head) k))) at ∙ ap not (head-within place l))))))
+        rw (
+          le-leb 3 _
+              (le-of-eq
+              (sym
+              (first-none (λ place. not
+              (in-bounds (column-in (body Tag.Head) place) (col (head-row head) (row-start no-rows Tag.Head 0 + place)))) 3
+              (λ place l.
+              let at : row-start no-rows Tag.Head 0 + place ≡ place = omega arith in
+              ap (λ k. not (in-bounds (column-in (body Tag.Head) place) (col (head-row head) k))) at
+              ∙ ap not (head-within place l))))),
+          uncapped no-rows (col (head-row head)) Tag.Head (row-start no-rows Tag.Head 0) refl,
+        )
     head-passes Key = refl
     head-passes Mdq = refl
 

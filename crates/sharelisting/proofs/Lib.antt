@@ -2,3 +2,4 @@ pub mod Decided
 pub mod HeadLine
 pub mod Sizes
 pub mod TextIs
+pub mod Earlier

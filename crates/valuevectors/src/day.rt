@@ -26,19 +26,20 @@ pub fn day_of(case: &[u8]) -> Day {
             points: word(case, 4),
             entries: word(case, 5),
             meters: word(case, 6),
+            excused: word(case, 7),
         },
     }
 }
 
 // How many numbers it has.
 pub fn length_of(case: &[u8]) -> usize
-    ensures { λ r. ⌜ r ≤ 6881 ⌝ }
+    ensures { λ r. ⌜ r ≤ 10721 ⌝ }
 {
-    lesser(word(case, 7) as usize, MOST_NUMBERS)
+    lesser(word(case, 8) as usize, MOST_NUMBERS)
 }
 
 pub fn numbers_of(case: &[u8]) -> [usize; MOST_NUMBERS] {
-    let halves = past(case, 8);
+    let halves = past(case, 9);
     let lower = bytes(halves);
     let higher = bytes(past_bytes(halves));
     let mut numbers = [0usize; MOST_NUMBERS];
@@ -50,5 +51,5 @@ pub fn numbers_of(case: &[u8]) -> [usize; MOST_NUMBERS] {
 
 // What follows the day.
 pub fn past_day(case: &[u8]) -> &[u8] {
-    past_bytes(past_bytes(past(case, 8)))
+    past_bytes(past_bytes(past(case, 9)))
 }

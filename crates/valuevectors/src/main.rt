@@ -2,6 +2,7 @@
 mod answers;
 mod case;
 mod day;
+mod excused;
 mod meters;
 mod rows;
 mod shippers;
@@ -82,6 +83,11 @@ fn answer_numbers(routine: u32, day: Day, numbers: &[usize], given: &[u8]) {
         11 => meters::answer_hours(counts, numbers, given),
         12 => meters::answer_delivered(counts, numbers, given),
         13 => texts::answer_hour(counts, numbers, given),
+        15 => excused::answer_check(counts, numbers, given),
+        16 => excused::answer_shipper(counts, numbers, given),
+        17 => excused::answer_row(counts, numbers, given),
+        18 => excused::answer_yesterday(counts, numbers, given),
+        19 => excused::answer_hours(counts, numbers, given),
         _ => {}
     }
 }

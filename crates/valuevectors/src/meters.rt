@@ -52,11 +52,15 @@ fn put_side(side: Side) {
     );
 }
 
-// The first 11 of both days' hours, today's all zero.
 pub fn answer_yesterday(counts: Counts, numbers: &[usize], given: &[u8]) {
     let hours = daymeters::meter_yesterday(counts, numbers, word(given, 0));
-    let figures = metered::both_days(hours, [Megajoules(0); 24]);
     io::write_all(1, b"meter_yesterday");
+    put_yesterday(hours);
+}
+
+// The first 11 of both days' hours, today's all zero.
+pub fn put_yesterday(hours: [Megajoules; 11]) {
+    let figures = metered::both_days(hours, [Megajoules(0); 24]);
     put_figures(&[0, 0]);
     put_figures(&figures[0..11]);
 }
@@ -64,6 +68,10 @@ pub fn answer_yesterday(counts: Counts, numbers: &[usize], given: &[u8]) {
 pub fn answer_hours(counts: Counts, numbers: &[usize], given: &[u8]) {
     let hours = daymeters::meter_hours(counts, numbers, word(given, 0));
     io::write_all(1, b"meter_hours");
+    put_today(hours);
+}
+
+pub fn put_today(hours: [[Megajoules; 24]; 2]) {
     put_figures(&[0, 0]);
     put_figures(&metered::bare_hours(hours[0]));
     put_figures(&metered::bare_hours(hours[1]));

@@ -8,12 +8,13 @@ use dayformat::Tag;
 use dayvalues::PointRow;
 use dayvalues::ShipperRow;
 
-// The tables' tags, 2 to 5.
+// The tables' tags: 2 to 5, and 9.
 fn tag_of(tag: u32) -> Tag {
     match tag {
         2 => Tag::Shipper,
         3 => Tag::Point,
         4 => Tag::Entry,
+        9 => Tag::Excused,
         _ => Tag::Meter,
     }
 }
@@ -35,6 +36,10 @@ pub fn answer_row(counts: Counts, numbers: &[usize], given: &[u8]) {
 pub fn answer_shipper(counts: Counts, numbers: &[usize], given: &[u8]) {
     let row = dayvalues::shipper_at(counts, numbers, word(given, 0));
     io::write_all(1, b"shipper_at");
+    put_shipper(row);
+}
+
+pub fn put_shipper(row: ShipperRow) {
     match row {
         ShipperRow::Refused(refusal) => put_refusal(refusal),
         ShipperRow::Shipper(shipper) => {

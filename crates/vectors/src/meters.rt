@@ -5,6 +5,7 @@ use crate::words::MOST_ROWS;
 use crate::words::list;
 use crate::words::megajoules_of;
 use crate::words::past;
+use crate::words::past_list;
 use crate::words::wide;
 use crate::words::word;
 use columns::lesser;
@@ -60,19 +61,28 @@ fn put_overrun(overrun: Overrun) {
 }
 
 pub fn answer_hourly(case: &[u32]) {
-    let overrun = overruns::hourly_overrun(Gigajoules(word(case, 0)), sides_of(past(case, 1)));
+    let overrun = overruns::hourly_overrun(
+        Gigajoules(word(case, 0)),
+        sides_of(past(case, 1)),
+        sides_of(past(case, 97)),
+    );
     io::write_all(1, b"hourly_overrun");
     put_overrun(overrun);
 }
 
 pub fn answer_twelve_hourly(case: &[u32]) {
-    let pairs = list(past(case, 2));
+    let lists = past(case, 2);
+    let pairs = list(lists);
     let figures = megajoules_of(pairs);
     let hours = lesser(pairs.len() / 2, MOST_ROWS);
+    let excused_pairs = list(past_list(lists));
+    let excused_figures = megajoules_of(excused_pairs);
+    let excused_hours = lesser(excused_pairs.len() / 2, MOST_ROWS);
     let overrun = overruns::twelve_hourly_overrun(
         Gigajoules(word(case, 0)),
         Gigajoules(word(case, 1)),
         &figures[0..hours],
+        &excused_figures[0..excused_hours],
     );
     io::write_all(1, b"twelve_hourly_overrun");
     put_overrun(overrun);
@@ -101,6 +111,8 @@ pub fn answer_overruns(case: &[u32]) {
         sides_of(past(case, 32)),
         side_of(past(case, 2)),
         side_of(past(case, 6)),
+        yesterday_of(past(case, 128)),
+        sides_of(past(case, 150)),
     );
     io::write_all(1, b"overruns_of_day");
     match day {

@@ -1,4 +1,4 @@
--- Each early return is the first of the three tests that does not hold; the last is the side's own.
+-- Each early return is the first of the three tests that does not hold; the last is the source's own.
 use mathlib.Core.Path.{ap}
 use borrow.Author.Needs.{needs}
 use borrow.Author.Tests.{lt-ltb, le-ltb}
@@ -20,20 +20,17 @@ row-place-requires c κs = search needs
 is-bounded-requires : tie.Need-is-bounded-requires
 is-bounded-requires c κs = search needs
 
-number-of-requires : tie.Need-number-of-requires
-number-of-requires c κs = search needs
-
-is-of-side-requires : tie.Need-is-of-side-requires
-is-of-side-requires c κs = search needs
+is-in-place-requires : tie.Need-is-in-place-requires
+is-in-place-requires c κs = search needs
 
 returns-2 : tie.Need-returns-2
 unfolding passes
 returns-2 c =
-    let kept = c .before .before in
+    let kept = c .before in
     let at = kept .before .before in
     let most = ap (λ form. form .most) (at .before .before .before .form-of .ensures) in
     rw (← most, lt-ltb _ _ (at .before .if1 .left), ← at .row-place .ensures .0)
-    (rw (← kept .before .is-bounded .ensures, kept .if2 .taken, ← c .before .number-of .ensures) (c .is-of-side .ensures))
+    (rw (← kept .before .is-bounded .ensures, kept .if2 .taken) (c .is-in-place .ensures))
 
 returns-3 : tie.Need-returns-3
 unfolding passes
@@ -51,7 +48,6 @@ keeps-bounds-spec =
     returns
     row-place-requires
     is-bounded-requires
-    number-of-requires
-    is-of-side-requires
+    is-in-place-requires
     returns-2
     returns-3)

@@ -13,6 +13,15 @@ meter-yesterday-requires c κs = search needs
 meter-hours-requires : tie.Need-meter-hours-requires
 meter-hours-requires c κs = search needs
 
+excused-row-requires : tie.Need-excused-row-requires
+excused-row-requires c κs = search needs
+
+excused-yesterday-requires : tie.Need-excused-yesterday-requires
+excused-yesterday-requires c κs = search needs
+
+excused-hours-requires : tie.Need-excused-hours-requires
+excused-hours-requires c κs = search needs
+
 overruns-of-day-requires : tie.Need-overruns-of-day-requires
 overruns-of-day-requires c κs = search needs
 
@@ -25,19 +34,39 @@ enum-known-day c = search needs
 returns : tie.Need-returns
 returns c =
     let day = c .before .before in
-    let hours = day .before in
+    let today = day .before in
+    let before = today .before in
+    let row = before .before in
+    let hours = row .before in
     let yesterday = hours .before in
     refused-zeros _
-    (rw (yesterday .before .figures-of .ensures, yesterday .meter-yesterday .ensures, hours .meter-hours .ensures) at
+    (rw (
+      before .excused-yesterday .ensures,
+      today .excused-hours .ensures,
+      row .excused-row .ensures,
+      yesterday .before .figures-of .ensures,
+      yesterday .meter-yesterday .ensures,
+      hours .meter-hours .ensures,
+    ) at
     (day .overruns-of-day .ensures)) (c .enum-told .given .1)
 
 returns-2 : tie.Need-returns-2
 returns-2 c =
     let day = c .before .before .before in
-    let hours = day .before in
+    let today = day .before in
+    let before = today .before in
+    let row = before .before in
+    let hours = row .before in
     let yesterday = hours .before in
     over-is _
-    (rw (yesterday .before .figures-of .ensures, yesterday .meter-yesterday .ensures, hours .meter-hours .ensures) at
+    (rw (
+      before .excused-yesterday .ensures,
+      today .excused-hours .ensures,
+      row .excused-row .ensures,
+      yesterday .before .figures-of .ensures,
+      yesterday .meter-yesterday .ensures,
+      hours .meter-hours .ensures,
+    ) at
     (day .overruns-of-day .ensures)) (c .before .day .given .1)
 
 pub overruns-of-spec : {M : Type 1} → statement M
@@ -47,6 +76,9 @@ overruns-of-spec =
     figures-of-requires
     meter-yesterday-requires
     meter-hours-requires
+    excused-row-requires
+    excused-yesterday-requires
+    excused-hours-requires
     overruns-of-day-requires
     enum-told
     enum-known-day

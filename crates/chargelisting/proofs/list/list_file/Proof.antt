@@ -1,6 +1,7 @@
 -- A refused file is refused by its own fault; a day that is read is sound, and listed.
 use Prim.Native.Nat.{ℕ}
 use lib.ListN.{length-replicate}
+use Rattle.dayfile.proofs.Reaching.{full-room}
 use Rattle.listings.proofs.Listing.{lists-refusal, part-sound, part-inside, part-long, lists-day}
 use Rattle.chargelisting.specs.ChargesText.{charges-text}
 use borrow.Author.Needs.{needs}
@@ -52,7 +53,7 @@ list-day-requires c κs =
 returns : tie.Need-returns
 returns c =
     let read = c .before .before .before .before in
-    lists-refusal _ _ _ (length-replicate {A = ℕ} 6_880 0) _
+    lists-refusal _ _ _ (length-replicate {A = ℕ} full-room 0) _
     (rw (c .before .reading .given .1) at (read .read-day .ensures)) _ _
 
 same-length : tie.Need-same-length

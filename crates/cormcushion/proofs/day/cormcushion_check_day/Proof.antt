@@ -2,6 +2,7 @@
 use mathlib.Core.Path.{_∙_}
 use Prim.Native.Nat.{ℕ}
 use lib.ListN.{length-replicate}
+use Rattle.dayfile.proofs.Reaching.{full-room}
 use Rattle.cormcushion.proofs.Checking.{checked}
 use borrow.Author.Needs.{needs}
 use Rattle.cormcushion.proofs.day.cormcushion_check_day.Statement.{statement}
@@ -20,7 +21,7 @@ returns : tie.Need-returns
 returns c =
     let read = c .before .before in
     let start = read .before .before .before in
-    c .of-reading .ensures ∙ checked (start .args .file .now) _ _ (length-replicate {A = ℕ} 6_880 0) _ (read .read-day .ensures)
+    c .of-reading .ensures ∙ checked (start .args .file .now) _ _ (length-replicate {A = ℕ} full-room 0) _ (read .read-day .ensures)
 
 pub cormcushion-check-day-spec : {M : Type 1} → statement M
 cormcushion-check-day-spec =

@@ -1,50 +1,14 @@
--- A rate beyond its bound is refused first; else the day is priced.
-use mathlib.Core.Path.{sym, _∙_}
-use Rattle.cormcushion.proofs.Charging.{refused-rate, charged}
+-- The charge is that of the same day with nothing excused.
+use Rattle.cormcushion.proofs.Charging.{nothing-charged}
 use borrow.Author.Needs.{needs}
 use Rattle.cormcushion.proofs.meter.cormcushion_overruns.Statement.{statement}
 use Rattle.cormcushion.proofs.meter.cormcushion_overruns.Tie as tie
 
-keep-requires : tie.Need-keep-requires
-keep-requires c κs = search needs
-
-enum-known-found : tie.Need-enum-known-found
-enum-known-found c = search needs
-
-refused-requires : tie.Need-refused-requires
-refused-requires c κs = search needs
-
-enum-told : tie.Need-enum-told
-enum-told c = search needs
-
-overruns-of-requires : tie.Need-overruns-of-requires
-overruns-of-requires c κs = search needs
-
-price-day-requires : tie.Need-price-day-requires
-price-day-requires c κs = search needs
+cormcushion-overruns-excused-requires : tie.Need-cormcushion-overruns-excused-requires
+cormcushion-overruns-excused-requires c κs = search needs
 
 returns : tie.Need-returns
-returns c =
-    let told = c .before .before in
-    let is = sym (told .before .before .keep .ensures) ∙ told .found .given .1 in
-    refused-rate is (c .refused .ensures)
-
-returns-2 : tie.Need-returns-2
-returns-2 c =
-    let over = c .before .before in
-    let told = over .before in
-    let is = sym (told .before .before .keep .ensures) ∙ told .enum-told .given .1 in
-    charged is (over .overruns-of .ensures) (c .price-day .ensures .0) (c .price-day .ensures .1)
+returns c = nothing-charged _ (c .cormcushion-overruns-excused .ensures)
 
 pub cormcushion-overruns-spec : {M : Type 1} → statement M
-cormcushion-overruns-spec =
-    tie.close
-    (tie.spec
-    keep-requires
-    enum-known-found
-    refused-requires
-    enum-told
-    overruns-of-requires
-    price-day-requires
-    returns
-    returns-2)
+cormcushion-overruns-spec = tie.close (tie.spec cormcushion-overruns-excused-requires returns)

@@ -21,7 +21,10 @@ returns-4 : tie.Need-returns-4
 returns-4 c = search needs
 
 returns-5 : tie.Need-returns-5
-returns-5 c = sym (List·getD-eq-default file-order Head {n = c .before .args .place} (omega (arith, c .match .rest)))
+returns-5 c = search needs
+
+returns-6 : tie.Need-returns-6
+returns-6 c = sym (List·getD-eq-default file-order Head {n = c .before .args .place} (omega (arith, c .match .rest)))
 
 pub tag-at-spec : {M : Type 1} → statement M
-tag-at-spec = tie.close (tie.spec returns returns-2 returns-3 returns-4 returns-5)
+tag-at-spec = tie.close (tie.spec returns returns-2 returns-3 returns-4 returns-5 returns-6)

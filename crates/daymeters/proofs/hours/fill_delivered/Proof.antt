@@ -4,13 +4,13 @@ use native.Mathlib.Omega.{arith}
 use borrow.Author.Needs.{needs}
 use Rattle.columns.specs.Column.{col}
 use Rattle.columns.proofs.Lists.{Filling, filling-none, filling-next, filling-all}
-use Rattle.daymeters.specs.Meter.{meter-at, yesterday-at}
+use Rattle.daymeters.specs.Meter.{meter-at, hours-at}
 use Rattle.daymeters.proofs.hours.fill_delivered.Statement.{statement}
 use Rattle.daymeters.proofs.hours.fill_delivered.Tie as tie
 
 abbrev Inv-loop : tie.InvT-loop
 Inv-loop counts numbers row out₀ hour₀ out hour =
-    Filling out₀ (λ i. meter-at counts (col numbers) row (yesterday-at + i)) hour out × (hour ≤ 35)
+    Filling out₀ (λ i. meter-at counts (col numbers) row (hours-at + i)) hour out × (hour ≤ 35)
 
 abbrev μ-loop : tie.MeasureT-loop
 μ-loop counts numbers row out₀ hour₀ out hour = 35 - hour

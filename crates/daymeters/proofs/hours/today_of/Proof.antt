@@ -1,63 +1,54 @@
--- What is written so far are the first hours, so at the end they are all of them.
-use Prim.Native.Nat.{_+_, _-_}
+-- Both sides' hours are read where the tests accept.
 use borrow.Author.Needs.{needs}
-use Rattle.columns.specs.Column.{col}
-use Rattle.daymeters.specs.Meter.{meter-at}
-use Rattle.daymeters.proofs.Writing.{Writing, writing-none, writing-next, written}
+use Rattle.daymeters.proofs.Answers.{zeros-refused, figures-accepted}
 use Rattle.daymeters.proofs.hours.today_of.Statement.{statement}
 use Rattle.daymeters.proofs.hours.today_of.Tie as tie
 
-abbrev Inv-loop : tie.InvT-loop
-Inv-loop counts numbers row at hours₀ hour₀ hours hour = Writing hours₀ 24 (λ i. meter-at counts (col numbers) row (at + i)) hour hours
+check-row-requires : tie.Need-check-row-requires
+check-row-requires c κs = search needs
 
-abbrev μ-loop : tie.MeasureT-loop
-μ-loop counts numbers row at hours₀ hour₀ hours hour = 24 - hour
+enum-told : tie.Need-enum-told
+enum-told c = search needs
 
-loop-holds : tie.Need-loop-holds Inv-loop μ-loop
-loop-holds c = writing-none _ _ _
+enum-told-2 : tie.Need-enum-told-2
+enum-told-2 c = search needs
 
-add-megajoules-at : tie.Need-add-megajoules-at Inv-loop μ-loop
-add-megajoules-at c = search needs
+add-side-from : tie.Need-add-side-from
+add-side-from c = search needs
 
-megajoules-at-requires : tie.Need-megajoules-at-requires Inv-loop μ-loop
-megajoules-at-requires c κs = search needs
+side-from-requires : tie.Need-side-from-requires
+side-from-requires c κs = search needs
 
-cast-hours : tie.Need-cast-hours Inv-loop μ-loop
-cast-hours c = search needs
+add-side-from-2 : tie.Need-add-side-from-2
+add-side-from-2 c = search needs
 
-mul-hours : tie.Need-mul-hours Inv-loop μ-loop
-mul-hours c = search needs
+add-side-from-3 : tie.Need-add-side-from-3
+add-side-from-3 c = search needs
 
-array-set-from-hours : tie.Need-array-set-from-hours Inv-loop μ-loop
-array-set-from-hours c = search needs
+side-from-requires-2 : tie.Need-side-from-requires-2
+side-from-requires-2 c κs = search needs
 
-add-hour : tie.Need-add-hour Inv-loop μ-loop
-add-hour c = search needs
+returns : tie.Need-returns
+returns c = zeros-refused (c .before .before .check-row .ensures) _ _ (c .enum-told .given .1)
 
-loop-less : tie.Need-loop-less Inv-loop μ-loop
-loop-less c = search needs
-
-loop-again : tie.Need-loop-again Inv-loop μ-loop
-loop-again c =
-    let turn = c .before in
-    writing-next _ _ _ _ _ (turn .before .loop .inv) _ (turn .loop-test .taken) (c .megajoules-at .ensures)
-
-returns : tie.Need-returns Inv-loop μ-loop
-returns c = written _ _ _ _ _ (c .before .loop .inv) (search needs) (c .loop-test .left)
+returns-2 : tie.Need-returns-2
+returns-2 c =
+    let delivered = c .before in
+    let told = delivered .before in
+    figures-accepted (told .before .before .check-row .ensures) _ _ (told .enum-told2 .given .1)
+    (rw (delivered .side-from .ensures, c .side-from2 .ensures))
 
 pub today-of-spec : {M : Type 1} → statement M
 today-of-spec =
     tie.close
     (tie.spec
-    Inv-loop
-    μ-loop
-    loop-holds
-    add-megajoules-at
-    megajoules-at-requires
-    cast-hours
-    mul-hours
-    array-set-from-hours
-    add-hour
-    loop-less
-    loop-again
-    returns)
+    check-row-requires
+    enum-told
+    enum-told-2
+    add-side-from
+    side-from-requires
+    add-side-from-2
+    add-side-from-3
+    side-from-requires-2
+    returns
+    returns-2)

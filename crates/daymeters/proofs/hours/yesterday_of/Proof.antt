@@ -1,64 +1,30 @@
--- What is written so far are the first hours, so at the end they are all of them.
-use Prim.Native.Nat.{_+_, _-_}
+-- The hours are read where the tests accept.
 use borrow.Author.Needs.{needs}
-use Rattle.columns.specs.Column.{col}
-use Rattle.daymeters.specs.Meter.{meter-at, yesterday-at}
-use Rattle.daymeters.proofs.Writing.{Writing, writing-none, writing-next, written}
+use Rattle.daymeters.proofs.Answers.{zeros-refused, figures-accepted}
 use Rattle.daymeters.proofs.hours.yesterday_of.Statement.{statement}
 use Rattle.daymeters.proofs.hours.yesterday_of.Tie as tie
 
-abbrev Inv-loop : tie.InvT-loop
-Inv-loop counts numbers row hours₀ hour₀ hours hour =
-    Writing hours₀ 11 (λ i. meter-at counts (col numbers) row (yesterday-at + i)) hour hours
+check-row-requires : tie.Need-check-row-requires
+check-row-requires c κs = search needs
 
-abbrev μ-loop : tie.MeasureT-loop
-μ-loop counts numbers row hours₀ hour₀ hours hour = 11 - hour
+enum-told : tie.Need-enum-told
+enum-told c = search needs
 
-loop-holds : tie.Need-loop-holds Inv-loop μ-loop
-loop-holds c = writing-none _ _ _
+enum-told-2 : tie.Need-enum-told-2
+enum-told-2 c = search needs
 
-add-megajoules-at : tie.Need-add-megajoules-at Inv-loop μ-loop
-add-megajoules-at c = search needs
+yesterday-from-requires : tie.Need-yesterday-from-requires
+yesterday-from-requires c κs = search needs
 
-megajoules-at-requires : tie.Need-megajoules-at-requires Inv-loop μ-loop
-megajoules-at-requires c κs = search needs
+returns : tie.Need-returns
+returns c = zeros-refused (c .before .before .check-row .ensures) _ _ (c .enum-told .given .1)
 
-cast-hours : tie.Need-cast-hours Inv-loop μ-loop
-cast-hours c = search needs
-
-mul-hours : tie.Need-mul-hours Inv-loop μ-loop
-mul-hours c = search needs
-
-array-set-from-hours : tie.Need-array-set-from-hours Inv-loop μ-loop
-array-set-from-hours c = search needs
-
-add-hour : tie.Need-add-hour Inv-loop μ-loop
-add-hour c = search needs
-
-loop-less : tie.Need-loop-less Inv-loop μ-loop
-loop-less c = search needs
-
-loop-again : tie.Need-loop-again Inv-loop μ-loop
-loop-again c =
-    let turn = c .before in
-    writing-next _ _ _ _ _ (turn .before .loop .inv) _ (turn .loop-test .taken) (c .megajoules-at .ensures)
-
-returns : tie.Need-returns Inv-loop μ-loop
-returns c = written _ _ _ _ _ (c .before .loop .inv) (search needs) (c .loop-test .left)
+returns-2 : tie.Need-returns-2
+returns-2 c =
+    let told = c .before in
+    figures-accepted (told .before .before .check-row .ensures) _ _ (told .enum-told2 .given .1) (c .yesterday-from .ensures)
 
 pub yesterday-of-spec : {M : Type 1} → statement M
 yesterday-of-spec =
     tie.close
-    (tie.spec
-    Inv-loop
-    μ-loop
-    loop-holds
-    add-megajoules-at
-    megajoules-at-requires
-    cast-hours
-    mul-hours
-    array-set-from-hours
-    add-hour
-    loop-less
-    loop-again
-    returns)
+    (tie.spec check-row-requires enum-told enum-told-2 yesterday-from-requires returns returns-2)

@@ -1,5 +1,5 @@
 -- Each tag's own reader; of a head nothing is read.
-use Rattle.dayformat.specs.declared.form.Tag.the-variants.{Shipper, Point, Entry, Meter}
+use Rattle.dayformat.specs.declared.form.Tag.the-variants.{Shipper, Point, Entry, Meter, Excused}
 use Rattle.dayruns.proofs.BodyReading.{body-read, body-unread}
 use borrow.Author.Needs.{needs}
 use Rattle.dayruns.proofs.body.read_body.Statement.{statement}
@@ -31,6 +31,12 @@ enum-told-5 c = search needs
 
 read-meter-requires : tie.Need-read-meter-requires
 read-meter-requires c κs = rw (c .before .enum-told5 .given .1) at (c .before .before .before .before .before .pre)
+
+enum-told-6 : tie.Need-enum-told-6
+enum-told-6 c = search needs
+
+read-excused-requires : tie.Need-read-excused-requires
+read-excused-requires c κs = rw (c .before .enum-told6 .given .1) at (c .before .before .before .before .before .pre)
 
 returns : tie.Need-returns
 returns c = body-unread _
@@ -75,6 +81,16 @@ returns-5 c =
     rw (told .enum-told5 .given .1)
     (body-read Meter (read .read-meter .ensures) (rw (told .enum-told5 .given .1) at (told .before .before .before .before .pre)))
 
+same-length-5 : tie.Need-same-length-5
+same-length-5 c = search needs
+
+returns-6 : tie.Need-returns-6
+returns-6 c =
+    let read = c .before .before in
+    let told = read .before .before in
+    rw (told .enum-told6 .given .1)
+    (body-read Excused (read .read-excused .ensures) (rw (told .enum-told6 .given .1) at (told .before .before .before .before .pre)))
+
 pub read-body-spec : {M : Type 1} → statement M
 read-body-spec =
     tie.close
@@ -88,6 +104,8 @@ read-body-spec =
     read-entry-requires
     enum-told-5
     read-meter-requires
+    enum-told-6
+    read-excused-requires
     returns
     same-length
     returns-2
@@ -96,4 +114,6 @@ read-body-spec =
     same-length-3
     returns-4
     same-length-4
-    returns-5)
+    returns-5
+    same-length-5
+    returns-6)

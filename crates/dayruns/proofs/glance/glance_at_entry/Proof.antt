@@ -2,6 +2,8 @@
 use mathlib.Core.Path.{refl}
 use native.Mathlib.Omega.{arith}
 use borrow.Author.Tests.{not-false, ltb-true}
+use Rattle.dayformat.specs.declared.form.Tag.the-variants.{Entry}
+use Rattle.dayrows.proofs.Capping.{uncapped}
 use Rattle.dayruns.proofs.Finding.{entry-named}
 use Rattle.dayruns.proofs.Glancing.{unsure, glanced}
 use Rattle.dayruns.proofs.RowReading.{row-room}
@@ -55,6 +57,7 @@ returns-3 c =
       not-false (read .see-entry-row .result) (on .if1 .left),
       refl,
       entry-named _ _ _ (read .before .before .before .before .pre .0) (names .0 (there .if2 .left)) (names .1 (ltb-true _ _ yes)),
+      uncapped _ _ Entry _ refl,
     ))
 
 pub glance-at-entry-spec : {M : Type 1} → statement M

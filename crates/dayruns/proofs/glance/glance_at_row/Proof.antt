@@ -1,14 +1,16 @@
--- A row that passes every test but that of its names is sound where both of them are found.
+-- A row that passes every test but those of its names and its caps is sound where both names are found and the first caps no number.
 use mathlib.Core.Path.{_≡_, refl, ap}
 use mathlib.Core.Bool.{true}
 use Prim.Native.Nat.{ℕ, _+_, _^_, _<_}
 use native.Mathlib.Omega.{arith}
-use borrow.Author.Tests.{not-false, ltb-true}
+use borrow.Author.Tests.{not-false}
 use lib.ListN.{getD}
 use Rattle.dayformat.specs.declared.form.Tag.the-variants.{Head}
 use Rattle.dayformat.specs.Format.{_is-a_}
+use Rattle.dayformat.specs.Layout.{count}
+use Rattle.dayrows.proofs.Enough.{keyed-listed}
 use Rattle.dayrows.proofs.Naming.{names-near}
-use Rattle.dayruns.proofs.Finding.{name-inside, both-named}
+use Rattle.dayruns.proofs.Finding.{name-inside, caps-inside, both-named, first-caps}
 use Rattle.dayruns.proofs.Glancing.{unsure, glanced}
 use borrow.Author.Needs.{needs}
 use Rattle.dayruns.proofs.glance.glance_at_row.Statement.{statement}
@@ -30,6 +32,19 @@ near : (c : tie.After-names-of) (next : ℕ) → next < 2
 near c next l =
     let is = ap (λ list. getD list next (0 is-a Head) .place) (c .names-of .ensures) in
     omega (arith, start-of c .pre .1, names-near (start-of c .args .tag) next (0 is-a Head) l, is)
+
+-- where both names are found, the row of the first
+abbrev first-of-names : tie.Else3 → tie.After-row-keyed-from
+first-of-names c = c .before .before .before .before .before .before .before .before
+
+abbrev named-of : tie.After-row-keyed-from → tie.After-names-of
+named-of c = c .before .before .before .before
+
+found : (c : tie.Else3)
+    → let first = first-of-names c in
+    first .row-keyed-from .result
+    < count (start-of (named-of first) .args .counts) (getD (named-of first .names-of .result) 0 (0 is-a Head) .tag)
+found c = let there = c .before .before in omega (arith, there .if2 .left, there .before .count-of .ensures)
 
 see-row-requires : tie.Need-see-row-requires
 see-row-requires c κs = search needs
@@ -79,34 +94,50 @@ same-length-2 c = search needs
 returns-2 : tie.Need-returns-2
 returns-2 c =
     let first = c .before .before .before .before .before .before in
-    let named = first .before .before .before .before in
-    unsure _ _ _ _ _ _ _ (read-of named .see-row .ensures)
+    unsure _ _ _ _ _ _ _ (read-of (named-of first) .see-row .ensures)
 
 count-of-requires-2 : tie.Need-count-of-requires-2
 count-of-requires-2 c κs = search needs
 
-cast-t26 : tie.Need-cast-t26
-cast-t26 c = search needs
+cast-if3 : tie.Need-cast-if3
+cast-if3 c = search needs
 
 same-length-3 : tie.Need-same-length-3
 same-length-3 c = search needs
 
 returns-3 : tie.Need-returns-3
 returns-3 c =
-    let there = c .before in
-    let counted = there .before in
-    let second = counted .before in
-    let first = second .before .before .before .before in
-    let named = first .before .before .before .before in
+    let first = c .before .before .before .before .before .before .before .before in
+    unsure _ _ _ _ _ _ _ (read-of (named-of first) .see-row .ensures)
+
+is-under-requires : tie.Need-is-under-requires
+is-under-requires c κs =
+    let named = named-of (first-of-names (c .before)) in
+    caps-inside (read-of named .see-row .ensures) (kept named) (start-of named .pre .0) (named .names-of .ensures) (0 is-a Head)
+    (found (c .before))
+
+same-length-4 : tie.Need-same-length-4
+same-length-4 c = search needs
+
+returns-4 : tie.Need-returns-4
+returns-4 c =
+    let on = c .before .before in
+    let counted = on .before in
+    let second = counted .before .before .before in
+    let first = first-of-names on in
+    let named = named-of first in
     let start = start-of named in
     glanced _ _ _ _ _ _ _ (read-of named .see-row .ensures)
     (λ yes.
-    let less : second .row-keyed-from2 .result < c .count-of2 .result = ltb-true _ _ yes in (
+    let same = first .row-keyed-from .ensures (found on) in
+    let other = second .row-keyed-from2 .ensures (omega (arith, on .if3 .left, counted .count-of2 .ensures)) in (
       kept named,
       refl,
       both-named (start .args .counts) _ (start .args .tag) (start .args .row) (start .pre .0) (0 is-a Head) (named .names-of .ensures)
-          (first .row-keyed-from .ensures (omega (arith, there .if2 .left, counted .count-of .ensures)))
-          (second .row-keyed-from2 .ensures (omega (arith, less, c .count-of2 .ensures))),
+          (keyed-listed (start .args .counts) _ _ _ _ (found on) same)
+          (keyed-listed (start .args .counts) _ _ _ _ (omega (arith, on .if3 .left, counted .count-of2 .ensures)) other),
+      first-caps (start .args .counts) _ (start .args .tag) (start .args .row) (start .pre .0) (0 is-a Head) (named .names-of .ensures)
+          (found on) same (c .is-under .ensures yes),
     ))
 
 pub glance-at-row-spec : {M : Type 1} → statement M
@@ -128,6 +159,9 @@ glance-at-row-spec =
     same-length-2
     returns-2
     count-of-requires-2
-    cast-t26
+    cast-if3
     same-length-3
-    returns-3)
+    returns-3
+    is-under-requires
+    same-length-4
+    returns-4)

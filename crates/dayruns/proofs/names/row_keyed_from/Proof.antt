@@ -2,7 +2,7 @@
 use Prim.Native.Nat.{_-_, _*_, _^_, _<_, _≤_}
 use native.Mathlib.Omega.{arith}
 use Rattle.dayformat.proofs.Small.{rows-small}
-use Rattle.dayruns.proofs.Finding.{row-inside, row-listed}
+use Rattle.dayruns.proofs.Finding.{row-inside, row-keyed}
 use borrow.Author.Needs.{needs}
 use Rattle.dayruns.proofs.names.row_keyed_from.Statement.{statement}
 use Rattle.dayruns.proofs.names.row_keyed_from.Tie as tie
@@ -59,7 +59,7 @@ returns c = λ l.
     let turn = c .before .before .before in
     let placed = turn .before .before .before in
     let start = placed .before .before .before in
-    row-listed (start .args .counts) (start .args .tag) (start .args .numbers .now) (start .args .at) (turn .before .loop .row)
+    row-keyed (start .args .counts) (start .args .tag) (start .args .numbers .now) (start .args .at) (turn .before .loop .row)
     (placed .before .form-of .ensures)
     (placed .row-place .ensures .0) l (c .before .is-same .ensures (c .if1 .taken))
 

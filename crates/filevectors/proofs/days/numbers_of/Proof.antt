@@ -5,10 +5,10 @@ use Rattle.filevectors.proofs.days.numbers_of.Statement.{statement}
 use Rattle.filevectors.proofs.days.numbers_of.Tie as tie
 
 abbrev Inv-loop : tie.InvT-loop
-Inv-loop higher lower numbers₀ place₀ numbers place = place ≤ 6881
+Inv-loop higher lower numbers₀ place₀ numbers place = place ≤ 10721
 
 abbrev μ-loop : tie.MeasureT-loop
-μ-loop higher lower numbers₀ place₀ numbers place = 6881 - place
+μ-loop higher lower numbers₀ place₀ numbers place = 10721 - place
 
 loop-holds : tie.Need-loop-holds Inv-loop μ-loop
 loop-holds c = search needs

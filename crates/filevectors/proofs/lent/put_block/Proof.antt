@@ -5,7 +5,7 @@ use Rattle.filevectors.proofs.lent.put_block.Statement.{statement}
 use Rattle.filevectors.proofs.lent.put_block.Tie as tie
 
 abbrev Inv-loop : tie.InvT-loop
-Inv-loop lent room written place₀ place = (place ≤ written) × (written ≤ 25552)
+Inv-loop lent room written place₀ place = (place ≤ written) × (written ≤ 40976)
 
 abbrev μ-loop : tie.MeasureT-loop
 μ-loop lent room written place₀ place = written - place

@@ -5,7 +5,7 @@ use Rattle.filevectors.proofs.lent.put_numbers.Statement.{statement}
 use Rattle.filevectors.proofs.lent.put_numbers.Tie as tie
 
 abbrev Inv-loop : tie.InvT-loop
-Inv-loop lent room written place₀ place = (place ≤ written) × (written ≤ 6881)
+Inv-loop lent room written place₀ place = (place ≤ written) × (written ≤ 10721)
 
 abbrev μ-loop : tie.MeasureT-loop
 μ-loop lent room written place₀ place = written - place

@@ -5,7 +5,7 @@ use Rattle.filevectors.proofs.lent.written_bytes.Statement.{statement}
 use Rattle.filevectors.proofs.lent.written_bytes.Tie as tie
 
 abbrev Inv-loop : tie.InvT-loop
-Inv-loop lent room written₀ written = (written ≤ room) × (written ≤ 25552)
+Inv-loop lent room written₀ written = (written ≤ room) × (written ≤ 40976)
 
 abbrev μ-loop : tie.MeasureT-loop
 μ-loop lent room written₀ written = written

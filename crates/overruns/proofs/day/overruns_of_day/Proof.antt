@@ -1,12 +1,14 @@
--- The four are worked out where every figure of the day is within its bound.
+-- The four are worked out where every figure of the day is within its bound, and what is excused within its hour.
 use mathlib.Core.Path.{_≡_, sym}
-use mathlib.Core.List.{[]}
+use mathlib.Core.List.{List, []}
+use Prim.Native.Nat.{ℕ}
 use native.Mathlib.Omega.{arith}
 use borrow.Author.Needs.{needs}
-use lib.ListN.{length, getD}
+use lib.ListN.{length, take, getD}
 use lib.Seq.{length-take-le}
 use Rattle.metered.proofs.Rows.{first-days}
 use Rattle.overruns.specs.Day.{ShipperDay, day-check}
+use Rattle.overruns.specs.Excused.{Excused, excused-day-check}
 use Rattle.overruns.proofs.WholeDay.{Tested, day-refused, day-fits, day-over}
 use Rattle.overruns.proofs.day.overruns_of_day.Statement.{statement}
 use Rattle.overruns.proofs.day.overruns_of_day.Tie as tie
@@ -22,42 +24,75 @@ day c =
       delivery = c .args .delivery;
     }
 
+abbrev excused : tie.Start → Excused
+excused c = record { yesterday = c .args .excused-yesterday; hours = c .args .t8 }
+
+-- where both days' hours, metered and excused, are made
+abbrev listed : tie.After-then4 → tie.After-both-days2
+listed c = c .before .before .before .before .before .before .before .before .before .before .before .before .before
+
 -- what is found is the chain of tests as it is defined
-checked : (c : tie.After-then2)
-    → c .then2 .result ≡ day-check (day (c .before .before .before .before .before .before .before .before .before))
-unfolding day-check
+checked : (c : tie.After-then4)
+    → let made = c .before .before .before .before .before .before .before .before .before .before .before .before .before in
+    let start = made .before .before .before .before in c .then4 .result ≡ excused-day-check (day start) (excused start)
+unfolding day-check excused-day-check
 checked c =
-    let within = c .before .before in
+    let tested = c .before .before in
+    let hours = tested .before .before .before .before in
+    let within = hours .before .before in
     let sides = within .before .before .before in
     let made = sides .before .before in
-    let start = made .before .before in
+    let start = made .before .before .before .before in
     rw (
-      c .then2 .ensures,
-      c .before .examine-hours .ensures,
+      c .then4 .ensures,
+      c .before .examine-excused-hours .ensures,
+      tested .then3 .ensures,
+      tested .before .examine-excused .ensures,
+      hours .then2 .ensures,
+      hours .before .examine-hours .ensures,
       within .megajoules-within .ensures,
       within .before .before .then .ensures,
       sides .examine-sides .ensures,
       sides .before .examine-mdqs .ensures,
-      made .both-days .ensures,
+      made .both-days2 .ensures,
+      made .before .before .both-days .ensures,
       first-days (start .args .yesterday) (getD (start .args .t4) 0 []) (start .good .1 .1 .0 .1 .0 .1),
+      first-days (start .args .excused-yesterday) (getD (start .args .t8) 0 []) (start .good .1 .1 .1 .1 .1 .1 .0 .1 .0 .1),
     )
 
-abbrev tested : tie.After-then2 → Tested
+abbrev tested : tie.After-then4 → Tested
 tested c =
-    let made = c .before .before .before .before .before .before .before in
+    let made = listed c in
+    let start = made .before .before .before .before in
     record {
-      D = day (made .before .before);
-      both = made .both-days .result;
-      joined = made .both-days .ensures;
-      found = c .then2 .result;
+      D = day start;
+      E = excused start;
+      both = made .before .before .both-days .result;
+      joined = made .before .before .both-days .ensures;
+      excused-both = made .both-days2 .result;
+      excused-joined = made .both-days2 .ensures;
+      found = c .then4 .result;
       checked = checked c;
     }
+
+-- both days' hours are 35, and yesterday's the first 11 of them
+long : (c : tie.After-both-days2) → (length (c .before .before .both-days .result) ≡ 35) × (length (c .both-days2 .result) ≡ 35)
+long c = (search needs, search needs)
+
+first-eleven : (hours : List ℕ) → length hours ≡ 35 → 11 ≡ length (take 11 hours)
+first-eleven hours is = sym (length-take-le 11 hours (omega (arith, is)))
 
 array-copy-out-both-days : tie.Need-array-copy-out-both-days
 array-copy-out-both-days c = search needs
 
 both-days-requires : tie.Need-both-days-requires
 both-days-requires c κs = search needs
+
+array-copy-out-both-days-2 : tie.Need-array-copy-out-both-days-2
+array-copy-out-both-days-2 c = search needs
+
+both-days-requires-2 : tie.Need-both-days-requires-2
+both-days-requires-2 c κs = search needs
 
 examine-mdqs-requires : tie.Need-examine-mdqs-requires
 examine-mdqs-requires c κs = search needs
@@ -73,8 +108,7 @@ array-share-prefix-both c = search needs
 
 slice-aggregate-megajoules-within : tie.Need-slice-aggregate-megajoules-within
 slice-aggregate-megajoules-within c =
-    let both = c .before .before .before .before .both-days .result in
-    let long : length both ≡ 35 = search needs in sym (length-take-le 11 both (omega arith))
+    let made = c .before .before .before .before in first-eleven (made .before .before .both-days .result) (long made .0)
 
 megajoules-within-requires : tie.Need-megajoules-within-requires
 megajoules-within-requires c κs = search needs
@@ -85,29 +119,72 @@ examine-hours-requires c κs = search needs
 then-requires-2 : tie.Need-then-requires-2
 then-requires-2 c κs = search needs
 
+array-share-prefix-both-2 : tie.Need-array-share-prefix-both-2
+array-share-prefix-both-2 c = search needs
+
+slice-aggregate-examine-excused : tie.Need-slice-aggregate-examine-excused
+slice-aggregate-examine-excused c =
+    let made = c .before .before .before .before .before .before .before .before in
+    first-eleven (made .before .before .both-days .result) (long made .0)
+
+array-share-prefix-excused-both : tie.Need-array-share-prefix-excused-both
+array-share-prefix-excused-both c = search needs
+
+slice-aggregate-examine-excused-2 : tie.Need-slice-aggregate-examine-excused-2
+slice-aggregate-examine-excused-2 c =
+    let made = c .before .before .before .before .before .before .before .before .before in
+    first-eleven (made .both-days2 .result) (long made .1)
+
+examine-excused-requires : tie.Need-examine-excused-requires
+examine-excused-requires c κs = search needs
+
+then-requires-3 : tie.Need-then-requires-3
+then-requires-3 c κs = search needs
+
+examine-excused-hours-requires : tie.Need-examine-excused-hours-requires
+examine-excused-hours-requires c κs = search needs
+
+then-requires-4 : tie.Need-then-requires-4
+then-requires-4 c κs = search needs
+
 enum-known-found : tie.Need-enum-known-found
 enum-known-found c = search needs
 
 enum-told : tie.Need-enum-told
 enum-told c = search needs
 
+slice-aggregate-compared-days : tie.Need-slice-aggregate-compared-days
+slice-aggregate-compared-days c = sym (long (listed (c .before .before .before)) .0)
+
+slice-aggregate-compared-days-2 : tie.Need-slice-aggregate-compared-days-2
+slice-aggregate-compared-days-2 c = sym (long (listed (c .before .before .before .before)) .1)
+
+compared-days-requires : tie.Need-compared-days-requires
+compared-days-requires c κs = long (listed (c .before .before .before .before))
+
+compared-hours-requires : tie.Need-compared-hours-requires
+compared-hours-requires c κs = search needs
+
 slice-aggregate-four-overruns : tie.Need-slice-aggregate-four-overruns
 slice-aggregate-four-overruns c = search needs
 
 four-overruns-requires : tie.Need-four-overruns-requires
 four-overruns-requires c κs =
-    let told = c .before in
-    let made = told .before .before .before .before .before .before .before .before .before in
-    let long : length (made .both-days .result) ≡ 35 = search needs in
-    let fits = day-fits (tested (told .before .before)) (told .enum-told .given .1) in ((long, fits .0), fits .1)
+    let less = c .before .before in
+    let told = less .before .before .before in
+    let tests = told .before .before in
+    day-fits (tested tests) (told .enum-told .given .1) (less .compared-days .ensures) (c .before .compared-hours .ensures)
+    (long (listed tests) .0)
 
 returns : tie.Need-returns
 returns c = day-refused (tested (c .before .before .before)) (c .before .found .given .1)
 
 returns-2 : tie.Need-returns-2
 returns-2 c =
-    let told = c .before .before in
-    day-over (tested (told .before .before)) (told .enum-told .given .1) (c .four-overruns .ensures)
+    let rows = c .before .before in
+    let told = rows .before .before .before .before in
+    day-over (tested (told .before .before)) (told .enum-told .given .1) (rows .before .compared-days .ensures)
+    (rows .compared-hours .ensures) (c .four-overruns .ensures)
 
 pub overruns-of-day-spec : {M : Type 1} → statement M
 overruns-of-day-spec =
@@ -115,6 +192,8 @@ overruns-of-day-spec =
     (tie.spec
     array-copy-out-both-days
     both-days-requires
+    array-copy-out-both-days-2
+    both-days-requires-2
     examine-mdqs-requires
     examine-sides-requires
     then-requires
@@ -123,8 +202,20 @@ overruns-of-day-spec =
     megajoules-within-requires
     examine-hours-requires
     then-requires-2
+    array-share-prefix-both-2
+    slice-aggregate-examine-excused
+    array-share-prefix-excused-both
+    slice-aggregate-examine-excused-2
+    examine-excused-requires
+    then-requires-3
+    examine-excused-hours-requires
+    then-requires-4
     enum-known-found
     enum-told
+    slice-aggregate-compared-days
+    slice-aggregate-compared-days-2
+    compared-days-requires
+    compared-hours-requires
     slice-aggregate-four-overruns
     four-overruns-requires
     returns

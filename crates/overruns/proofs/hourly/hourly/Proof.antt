@@ -6,15 +6,13 @@ use borrow.Author.Needs.{needs}
 use lib.ListN.{getD}
 use Rattle.columns.specs.Column.{col}
 use Rattle.columns.proofs.Sums.{Adding, adding-none, adding-next}
-use Rattle.metered.specs.Hours.{delivered, received}
-use Rattle.metered.proofs.Rows.{figure-at}
 use Rattle.excesses.proofs.Excesses.{greater-excess, hours-fit, all-hours}
 use Rattle.overruns.proofs.hourly.hourly.Statement.{statement}
 use Rattle.overruns.proofs.hourly.hourly.Tie as tie
 
 abbrev Inv-loop : tie.InvT-loop
 Inv-loop hours most-delivered most-received total₀ hour₀ total hour =
-    Adding 24 (greater-excess (col (delivered hours)) (col (received hours)) (most-delivered .0) (most-received .0)) hour total
+    Adding 24 (greater-excess (col (getD hours 0 [])) (col (getD hours 1 [])) (most-delivered .0) (most-received .0)) hour total
 
 abbrev μ-loop : tie.MeasureT-loop
 μ-loop hours most-delivered most-received total₀ hour₀ total hour = 24 - hour
@@ -30,16 +28,8 @@ turn c =
     let over-delivered = over-received .before .before in
     let test = over-delivered .before .before in
     let turns = test .before in
-    let rows = turns .before .before .before .args .t2 in
-    let hour = turns .loop .hour in
     adding-next _ _ (turns .loop .inv) (test .loop-test .taken)
-    (c .greater .ensures
-    ∙ rw (
-      over-received .excess2 .ensures,
-      over-delivered .excess .ensures,
-      figure-at (getD rows 0 []) hour,
-      figure-at (getD rows 1 []) hour,
-    ))
+    (c .greater .ensures ∙ rw (over-received .excess2 .ensures, over-delivered .excess .ensures))
 
 thousandths-requires : tie.Need-thousandths-requires Inv-loop μ-loop
 thousandths-requires c κs = search needs
@@ -50,26 +40,26 @@ thousandths-requires-2 c κs = search needs
 loop-holds : tie.Need-loop-holds Inv-loop μ-loop
 loop-holds c = adding-none _ _
 
-mul-excess : tie.Need-mul-excess Inv-loop μ-loop
-mul-excess c = search needs
+mul-t14 : tie.Need-mul-t14 Inv-loop μ-loop
+mul-t14 c = search needs
 
-index-1-excess : tie.Need-index-1-excess Inv-loop μ-loop
-index-1-excess c = search needs
+index-1-t17 : tie.Need-index-1-t17 Inv-loop μ-loop
+index-1-t17 c = search needs
 
-index-2-excess : tie.Need-index-2-excess Inv-loop μ-loop
-index-2-excess c = search needs
+index-2-t17 : tie.Need-index-2-t17 Inv-loop μ-loop
+index-2-t17 c = search needs
 
 excess-requires : tie.Need-excess-requires Inv-loop μ-loop
 excess-requires c κs = search needs
 
-mul-excess-2 : tie.Need-mul-excess-2 Inv-loop μ-loop
-mul-excess-2 c = search needs
+mul-t14-2 : tie.Need-mul-t14-2 Inv-loop μ-loop
+mul-t14-2 c = search needs
 
-index-1-excess-2 : tie.Need-index-1-excess-2 Inv-loop μ-loop
-index-1-excess-2 c = search needs
+index-1-t17-2 : tie.Need-index-1-t17-2 Inv-loop μ-loop
+index-1-t17-2 c = search needs
 
-index-2-excess-2 : tie.Need-index-2-excess-2 Inv-loop μ-loop
-index-2-excess-2 c = search needs
+index-2-t17-2 : tie.Need-index-2-t17-2 Inv-loop μ-loop
+index-2-t17-2 c = search needs
 
 excess-requires-2 : tie.Need-excess-requires-2 Inv-loop μ-loop
 excess-requires-2 c κs = search needs
@@ -80,7 +70,7 @@ greater-requires c κs = search needs
 add-total : tie.Need-add-total Inv-loop μ-loop
 add-total c =
     let start = c .before .before .before .before .before .before .before .before .before .before in
-    record { fits = hours-fit (col (delivered (start .args .t2))) (col (received (start .args .t2))) _ _ (start .pre) (turn (c .before)) }
+    record { fits = hours-fit (col (getD (start .args .t2) 0 [])) (col (getD (start .args .t2) 1 [])) _ _ (start .pre) (turn (c .before)) }
 
 add-hour : tie.Need-add-hour Inv-loop μ-loop
 add-hour c = search needs
@@ -95,7 +85,7 @@ returns : tie.Need-returns Inv-loop μ-loop
 returns c =
     let limits = c .before .before in
     let args = limits .before .before .args in
-    all-hours (col (delivered (args .t2))) (col (received (args .t2))) _ _ (args .m .0) (c .before .loop .inv) (c .loop-test .left)
+    all-hours (col (getD (args .t2) 0 [])) (col (getD (args .t2) 1 [])) _ _ (args .m .0) (c .before .loop .inv) (c .loop-test .left)
     (limits .before .thousandths .ensures .0) (limits .thousandths2 .ensures .0)
 
 pub hourly-spec : {M : Type 1} → statement M
@@ -107,13 +97,13 @@ hourly-spec =
     thousandths-requires
     thousandths-requires-2
     loop-holds
-    mul-excess
-    index-1-excess
-    index-2-excess
+    mul-t14
+    index-1-t17
+    index-2-t17
     excess-requires
-    mul-excess-2
-    index-1-excess-2
-    index-2-excess-2
+    mul-t14-2
+    index-1-t17-2
+    index-2-t17-2
     excess-requires-2
     greater-requires
     add-total

@@ -9,8 +9,8 @@ use borrow.Author.Needs.{needs}
 use Rattle.pointhours.proofs.entries.firm_mdq.Statement.{statement}
 use Rattle.pointhours.proofs.entries.firm_mdq.Tie as tie
 
-shipper-row-requires : tie.Need-shipper-row-requires
-shipper-row-requires c κs = search needs
+row-beginning-requires : tie.Need-row-beginning-requires
+row-beginning-requires c κs = search needs
 
 number-at-requires : tie.Need-number-at-requires
 number-at-requires c κs = search needs
@@ -27,7 +27,7 @@ returns c =
     let args = found .before .before .before .args in
     c .lesser .ensures
     ∙ ap (λ mdq. min mdq most-number)
-    (found .number-at .ensures ∙ ap (column (args .counts) (col (args .numbers .now)) 1) (found .before .shipper-row .ensures))
+    (found .number-at .ensures ∙ ap (column (args .counts) (col (args .numbers .now)) 1) (found .before .row-beginning .ensures))
 
 pub firm-mdq-spec : {M : Type 1} → statement M
-firm-mdq-spec = tie.close (tie.spec shipper-row-requires number-at-requires lesser-requires cast-result returns)
+firm-mdq-spec = tie.close (tie.spec row-beginning-requires number-at-requires lesser-requires cast-result returns)

@@ -3,6 +3,7 @@ use mathlib.Core.List.{List}
 use Prim.Native.Nat.{ℕ}
 use lib.ListN.{length-replicate}
 use Rattle.columns.specs.Column.{col}
+use Rattle.dayfile.proofs.Reaching.{full-room}
 use Rattle.listings.proofs.Listing.{lists-refusal, part-inside, part-long, lists-day}
 use Rattle.pointlisting.specs.PointsText.{points-text}
 use Rattle.pointlisting.proofs.FileLists.{reads-part}
@@ -54,7 +55,7 @@ list-day-requires c κs =
 returns : tie.Need-returns
 returns c =
     let read = c .before .before .before .before in
-    lists-refusal _ _ _ (length-replicate {A = ℕ} 6_880 0) _
+    lists-refusal _ _ _ (length-replicate {A = ℕ} full-room 0) _
     (rw (c .before .reading .given .1) at (read .read-day .ensures)) _ _
 
 same-length : tie.Need-same-length

@@ -5,10 +5,10 @@ use Rattle.valuevectors.proofs.day.numbers_of.Statement.{statement}
 use Rattle.valuevectors.proofs.day.numbers_of.Tie as tie
 
 abbrev Inv-loop : tie.InvT-loop
-Inv-loop case lower higher numbers₀ place₀ numbers place = place ≤ 6881
+Inv-loop case lower higher numbers₀ place₀ numbers place = place ≤ 10721
 
 abbrev μ-loop : tie.MeasureT-loop
-μ-loop case lower higher numbers₀ place₀ numbers place = 6881 - place
+μ-loop case lower higher numbers₀ place₀ numbers place = 10721 - place
 
 past-requires : tie.Need-past-requires Inv-loop μ-loop
 past-requires c κs = search needs
