@@ -3,9 +3,10 @@
 python3 examples/make.py            stores them anew
 python3 examples/make.py --check    fails where they are not what is stored
 
-A line of a table file that begins a paragraph says what it is about: the day, the shippers, a point
-or a meter; indented lines are its rows. A word that is no figure is for the reader, but for a
-point's side and unit and the name of a meter's row. What follows a # is a remark.
+A line of a table file that begins a paragraph says what it is about: the day, the shippers, a point,
+a meter or the gas excused to a shipper; indented lines are its rows. A word that is no figure is for
+the reader, but for a point's side and unit and the name of a row of hours. What follows a # is a
+remark.
 """
 
 import pathlib
@@ -17,7 +18,7 @@ sys.path.insert(0, str(HERE.parent / "reference"))
 
 from cormcushion import LISTINGS, listing
 from dayfile import day_of, write_day
-from dayformat import ENTRY, HEAD, METER, POINT, SHIPPER
+from dayformat import ENTRY, EXCUSED, HEAD, METER, POINT, SHIPPER
 from refusals import Refusal
 
 DAYS = ("small", "cool")
@@ -34,9 +35,9 @@ UNITS = {
     "TJ/day": Fraction(1_000_000, 24),
 }
 
-# How many figures each row of a meter has.
-METER_ROWS = {"yesterday": 11, "delivered": 24, "received": 24, "backhaul": 4}
-NO_BACKHAUL = [0] * METER_ROWS["backhaul"]
+# How many figures each row of hours has, and a meter's backhaul.
+HOURS = {"yesterday": 11, "delivered": 24, "received": 24}
+BACKHAUL = {"backhaul": 4}
 
 
 def figures(words):
@@ -67,21 +68,33 @@ def point_row(words):
     return SIDES.index(side), int(point), int(Fraction(limit) * UNITS[unit])
 
 
+def named_figures(words, rows, counts, left_out):
+    """The figures of a paragraph's rows in the order of their names; those left out are zeros."""
+    named = {name: figures(row) for name, *row in rows}
+    for name, count in counts.items():
+        if name in left_out:
+            named.setdefault(name, [0] * count)
+        if len(named.get(name, ())) != count:
+            sys.exit(f"{words[0]} {words[1]} needs {count} figures for {name}")
+    return [figure for name in counts for figure in named[name]]
+
+
 def meter_row(words, rows):
     """A tag 5 row: the first line's figures and the rows' in the file's order."""
     shipper, p, m, *forward = figures(words)
-    named = {name: figures(row) for name, *row in rows}
-    for name, count in METER_ROWS.items():
-        if len(named.setdefault(name, NO_BACKHAUL)) != count:
-            sys.exit(f"meter {shipper} needs {count} figures for {name}")
-    schedules, metered = named["backhaul"][:2], named["backhaul"][2:]
-    hours = [*named["yesterday"], *named["delivered"], *named["received"]]
-    return (shipper, p, m, *hours, *forward, *schedules, *metered)
+    hours = named_figures(words, rows, HOURS, left_out=())
+    backhaul = named_figures(words, rows, BACKHAUL, left_out=BACKHAUL)
+    return (shipper, p, m, *hours, *forward, *backhaul)
+
+
+def excused_row(words, rows):
+    """A tag 9 row: the shipper and what is excused in its hours."""
+    return (*figures(words), *named_figures(words, rows, HOURS, left_out=HOURS))
 
 
 def tables_from(text):
     """A table file's rows for each tag."""
-    tables = {tag: [] for tag in (HEAD, SHIPPER, POINT, ENTRY, METER)}
+    tables = {tag: [] for tag in (HEAD, SHIPPER, POINT, ENTRY, METER, EXCUSED)}
     for words, rows in paragraphs(text):
         if words[0] == "day":
             tables[HEAD].append(figures(words))
@@ -93,8 +106,10 @@ def tables_from(text):
             tables[ENTRY].extend((side, point, *figures(row)) for row in rows)
         elif words[0] == "meter":
             tables[METER].append(meter_row(words, rows))
+        elif words[0] == "excused":
+            tables[EXCUSED].append(excused_row(words, rows))
         else:
-            sys.exit(f"{words[0]} is no day, shippers, point or meter")
+            sys.exit(f"{words[0]} is no day, shippers, point, meter or excused")
     return tables
 
 

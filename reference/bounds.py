@@ -1,4 +1,4 @@
-"""01's bounds and those of C-11 and C-12, each as the range of the whole numbers it allows."""
+"""01's bounds and those of C-11, C-12 and C-14, each as the range of the whole numbers it allows."""
 
 
 def up_to(greatest):
@@ -12,6 +12,8 @@ ROUND_CAPACITY = up_to(2_000_000)
 # Megajoules: metered hour, hourly point capacity, reserved entitlement.
 MEGAJOULES = up_to(100_000_000)
 BACKHAUL_METERED = up_to(2_400_000_000)
+# An excused hour has no bound but its metered one (cl. 5.4), and what its bytes hold.
+EXCUSED_MEGAJOULES = up_to(0xFFFF_FFFF)
 SYSTEM_USE = up_to(1_000_000_000)
 ACCUMULATED_IMBALANCE = range(-1_000_000_000, 1_000_000_001)
 CHARGEABLE_OVERRUN = up_to(28_800_000_000)

@@ -3,8 +3,8 @@
 from bounds import GIGAJOULES
 from cases import MOST_ROWS, WORD, Figure, put, some_room, wide
 from dayfile import day_of, tables_of
-from dayformat import ENTRY, FORMS, HEAD, METER, POINT, SHIPPER
-from days import full_day, make_day
+from dayformat import ENTRY, EXCUSED, FORMS, HEAD, METER, POINT, SHIPPER
+from days import excused_gas, full_day, make_day
 from dayvalues import SHIPPER_COLUMNS, shipper_column
 from filecases import NUMBERS
 from numberfaults import limits, miscounted, padded, row_edits, some_edited
@@ -150,8 +150,11 @@ ELSEWHERE = [
 def faulty_shares():
     edits = [*([edit] for edit in (*row_edits(SHIPPER, 1), *ELSEWHERE)), *ORDERS]
     beyond = with_capacities(SEVERAL, GREATEST + 1, 0)
+    # nor do they look at excused gas
+    excused = {**SHIPPERS_ALONE, EXCUSED: [excused_gas(0, 2**32, 1)]}
     return [
         *(day_of(edited(SEVERAL, *some)) for some in edits),
+        day_of(excused),
         *miscounted(day_of(SEVERAL)),
         beyond._replace(numbers=beyond.numbers[:-1]),
     ]

@@ -6,11 +6,22 @@ tables one after another in file order.
 
 from typing import NamedTuple
 
-from dayformat import ENTRY, FORMS, HEAD, HEADER, METER, POINT, SHIPPER, read_field, write_field
+from dayformat import (
+    ENTRY,
+    EXCUSED,
+    FORMS,
+    HEAD,
+    HEADER,
+    METER,
+    POINT,
+    SHIPPER,
+    read_field,
+    write_field,
+)
 from dayrows import ROW_TESTS, numbers_are_bounded
 from refusals import require, require_figures, require_room
 
-TABLES = (SHIPPER, POINT, ENTRY, METER)
+TABLES = (SHIPPER, POINT, ENTRY, METER, EXCUSED)
 
 
 class Head(NamedTuple):
@@ -24,6 +35,7 @@ class Counts(NamedTuple):
     points: int
     entries: int
     meters: int
+    excused: int
 
 
 class Day(NamedTuple):

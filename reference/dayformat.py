@@ -6,6 +6,7 @@ from bounds import (
     BACKHAUL_METERED,
     DAY_NUMBER,
     ENTRIES,
+    EXCUSED_MEGAJOULES,
     GIGAJOULES,
     MEGAJOULES,
     NAME,
@@ -41,8 +42,9 @@ DAY_U32 = Column(4, DAY_NUMBER)
 GIGAJOULES_U32 = Column(4, GIGAJOULES)
 MEGAJOULES_U32 = Column(4, MEGAJOULES)
 BACKHAUL_U32 = Column(4, BACKHAUL_METERED)
+EXCUSED_U32 = Column(4, EXCUSED_MEGAJOULES)
 
-HEAD, SHIPPER, POINT, ENTRY, METER = 1, 2, 3, 4, 5
+HEAD, SHIPPER, POINT, ENTRY, METER, EXCUSED = 1, 2, 3, 4, 5, 9
 
 FORMS = {
     # day, free flow capacity, compressor capacity
@@ -65,7 +67,12 @@ FORMS = {
         key=1,
         count=SHIPPERS,
     ),
+    # shipper; what is excused in each hour of a meter
+    EXCUSED: Form((NAME_U16, *[EXCUSED_U32] * 59), key=1, count=SHIPPERS),
 }
+
+# Where a row has its hours: 11 of yesterday, 24 delivered and 24 received ones of today.
+HOURS = {METER: slice(3, 62), EXCUSED: slice(1, 60)}
 
 
 class Field(NamedTuple):

@@ -18,7 +18,7 @@ def cuts(file):
 
 def other_tags(fields, index):
     field = fields[index]
-    tags = [tag for tag in (*range(7), 255) if tag != field[0]]
+    tags = [tag for tag in (*range(7), 9, 255) if tag != field[0]]
     return [put(fields, index, bytes([tag]) + field[1:]) for tag in tags]
 
 
@@ -43,7 +43,10 @@ def other_orders(fields, index):
 # What may follow a sound file's last field: parts of a header, headers without a body.
 TRAILING = [
     bytes.fromhex(given)
-    for given in ("00", "ff", "0400", "000000", "040009", "05010e", "05010d", "060000", "00000000")
+    for given in (
+        *("00", "ff", "0400", "000000", "040009", "05010e", "05010d", "060000", "00000000"),
+        *("09", "0900", "0900ee", "0900ed", "080000", "0a0000"),
+    )
 ]
 
 

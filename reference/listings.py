@@ -1,10 +1,10 @@
 """The three listings that programs print, from a day file's bytes to text."""
 
 from dayfile import read_day, tables_of
-from dayformat import ENTRY, METER, POINT, SHIPPER
+from dayformat import ENTRY, EXCUSED, METER, POINT, SHIPPER
 from daymeters import hours_of, yesterday_of
 from dayshares import share_day
-from overruns import BackhaulMetered, Schedules, day_overruns
+from overruns import NOTHING_EXCUSED, BackhaulMetered, Excused, Schedules, day_overruns
 from pointshares import hour_at_point
 from refusals import Refusal
 from tariff import overrun_charge
@@ -33,24 +33,32 @@ def shares_listing(file):
     return lines([first, *zip(names, shares.firm, shares.auction, shares.lower_tier)])
 
 
-def meter_overruns(meter):
-    """The overruns from the figures of a tag 5 field."""
+def excused_by_shipper(rows):
+    """The excused hours of each shipper that has a tag 9 field."""
+    return {row[0]: Excused(yesterday_of(EXCUSED, row), *hours_of(EXCUSED, row)) for row in rows}
+
+
+def meter_overruns(meter, excused):
+    """The overruns from the figures of a tag 5 field, and from its shipper's excused hours."""
     return day_overruns(
         p=meter[1],
         m=meter[2],
-        yesterday=yesterday_of(meter),
-        hours=hours_of(meter),
+        yesterday=yesterday_of(METER, meter),
+        hours=hours_of(METER, meter),
         schedules=Schedules(*meter[62:66]),
         metered=BackhaulMetered(*meter[66:68]),
+        excused=excused,
     )
 
 
 def charges_listing(file, rate):
     """DAY number, RATE; then shipper, the four overruns, the greatest, its charge in cents."""
     day = read_day(file)
+    tables = tables_of(day)
+    excused = excused_by_shipper(tables[EXCUSED])
     rows = [("DAY", day.head.day, "RATE", rate)]
-    for meter in tables_of(day)[METER]:
-        overruns = meter_overruns(meter)
+    for meter in tables[METER]:
+        overruns = meter_overruns(meter, excused.get(meter[0], NOTHING_EXCUSED))
         rows.append((meter[0], *overruns, overrun_charge(rate, overruns.greatest)))
     return lines(rows)
 

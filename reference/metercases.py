@@ -1,8 +1,8 @@
 """Cases of the meters of a day in memory: a row's tests, its figures and its hours."""
 
 from cases import WORD, Figure
-from dayfile import day_of
-from dayformat import FORMS, METER, POINT, SHIPPER
+from dayfile import day_of, tables_of
+from dayformat import EXCUSED, FORMS, METER, POINT, SHIPPER
 from daymeters import meter_at, meter_delivered, meter_figures, meter_hours, meter_yesterday
 from days import full_day
 from filecases import NUMBERS
@@ -15,6 +15,7 @@ from rowcases import (
     miscounted_rows,
     row_cases,
     some_rows,
+    tables_for,
 )
 from valuecases import InMemory, Lent, ValueRoutine
 
@@ -45,17 +46,22 @@ def answer_hours(day, row):
     return [*delivered, *received], []
 
 
-def meter_cases(chance):
+def hours_cases(tag, chance):
     """Accepted and refused: each row, and some of what the check is tried on; and sound rows beside
     a shipper and a point too many."""
-    too_many = [padded(METERED, tag, FORMS[tag].count[-1] + 1) for tag in (SHIPPER, POINT)]
+    tables = tables_for(tag)
+    too_many = [padded(tables, other, FORMS[other].count[-1] + 1) for other in (SHIPPER, POINT)]
     return [
-        *asked_rows(METER),
-        *limit_rows(METER),
+        *asked_rows(tag),
+        *limit_rows(tag),
         *([day, 1] for day in too_many),
-        *chance.sample([*faulty_rows(METER), *miscounted_rows(METER)], 4),
-        *some_rows(chance, METER, 3),
+        *chance.sample([*faulty_rows(tag), *miscounted_rows(tag)], 4),
+        *some_rows(chance, tag, 3),
     ]
+
+
+def meter_cases(chance):
+    return hours_cases(METER, chance)
 
 
 def answer_delivered(day, row, room):
@@ -63,13 +69,14 @@ def answer_delivered(day, row, room):
 
 
 def delivered_cases(chance):
-    """The same with room enough or one hour more; other rooms; and the last meter of a full day."""
+    """The same with room enough or one hour more; other rooms; and the last meter of a full day
+    without excused gas."""
     metered = day_of(METERED)
     rooms = (0, HOURS - 1, HOURS, HOURS + 1)
     return [
         *([day, row, HOURS + chance.randint(0, 1)] for day, row in meter_cases(chance)),
         *([metered, row, room] for room in rooms for row in (1, 2)),
-        [full_day(), 63, HOURS],
+        [day_of({**tables_of(full_day()), EXCUSED: []}), 63, HOURS],
     ]
 
 

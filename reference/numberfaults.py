@@ -3,7 +3,7 @@
 from cases import put
 from daycases import other_numbers
 from dayfile import TABLES, Counts, day_of, tables_of
-from dayformat import FORMS, METER
+from dayformat import EXCUSED, FORMS, METER
 from days import some_day
 from rowfaults import Edit, edited
 
@@ -14,15 +14,18 @@ def edges(bound):
     return [*least, bound[-1], bound[-1] + 1]
 
 
-# The ends of each list of a meter's figures.
-METER_PLACES = (0, 1, 2, 3, 13, 14, 37, 38, 61, 62, 65, 66, 67)
+# The ends of each list of a meter's figures, and of excused hours.
+LIST_ENDS = {
+    METER: (0, 1, 2, 3, 13, 14, 37, 38, 61, 62, 65, 66, 67),
+    EXCUSED: (0, 1, 59),
+}
 
 
 def row_edits(tag, row):
-    """Each number of a row at its bounds and beyond them, of a meter's lists the first and the
-    last; and numbers whose lowest 32 bits would pass."""
+    """Each number of a row at its bounds and beyond them, of lists of hours the first and the last;
+    and numbers whose lowest 32 bits would pass."""
     columns = FORMS[tag].columns
-    places = METER_PLACES if tag == METER else range(len(columns))
+    places = LIST_ENDS.get(tag, range(len(columns)))
     first, *_, last = places
     return [
         *(Edit(tag, row, place, edge) for place in places for edge in edges(columns[place].bound)),
@@ -45,7 +48,7 @@ def limits(tables):
 
 def miscounted(day):
     """Lists that are not as long as the counts say, and counts that no list is long enough for."""
-    counts = [Counts(*put(day.counts, index, 2**32 - 1)) for index in range(4)]
+    counts = [Counts(*put(day.counts, index, 2**32 - 1)) for index in range(len(TABLES))]
     return [*other_numbers(day), *(day._replace(counts=other) for other in counts)]
 
 

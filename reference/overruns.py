@@ -2,8 +2,8 @@
 
 from typing import NamedTuple
 
-from bounds import BACKHAUL_METERED, GIGAJOULES, MEGAJOULES
-from refusals import require_figures, require_hours, require_rows
+from bounds import BACKHAUL_METERED, GIGAJOULES, MEGAJOULES, up_to
+from refusals import require, require_figures, require_hours, require_rows
 
 YESTERDAY = 11
 TODAY = 24
@@ -15,6 +15,17 @@ class Sides(NamedTuple):
 
     delivered: list
     received: list
+
+
+class Excused(NamedTuple):
+    """Megajoules of each hour that the operator's own reprofiling moved (cl. 5.4)."""
+
+    yesterday: list
+    delivered: list
+    received: list
+
+
+NOTHING_EXCUSED = Excused([0] * YESTERDAY, [0] * TODAY, [0] * TODAY)
 
 
 class Schedules(NamedTuple):
@@ -48,6 +59,17 @@ class Overruns(NamedTuple):
 
 def excess(quantity, limit):
     return max(quantity - limit, 0)
+
+
+def compared(metered, excused):
+    """What is excused is taken off the hour before it is compared with a limit (cl. 5.4)."""
+    return [hour - off for hour, off in zip(metered, excused)]
+
+
+def compared_sides(hours, excused):
+    return Sides(
+        compared(hours.delivered, excused.delivered), compared(hours.received, excused.received)
+    )
 
 
 def hourly_quantity(m, hours):
@@ -99,19 +121,35 @@ def require_sides_bound(hours):
     require_rows(MEGAJOULES, hours.received)
 
 
-def hourly_overrun(m, hours):
+def require_excused(metered, excused):
+    """What was metered is the only bound of what is excused; the place is the hour."""
+    for hour, (gas, off) in enumerate(zip(metered, excused)):
+        require(off in up_to(gas), 3, hour)
+
+
+def require_sides_excused(hours, excused):
+    require_excused(hours.delivered, excused.delivered)
+    require_excused(hours.received, excused.received)
+
+
+def hourly_overrun(m, hours, excused=NOTHING_EXCUSED):
+    """excused: both sides' hours, as those metered."""
     require_sides_length(hours)
+    require_sides_length(excused)
     require_figures(GIGAJOULES, m)
     require_sides_bound(hours)
-    return hourly_quantity(m, hours)
+    require_sides_excused(hours, excused)
+    return hourly_quantity(m, compared_sides(hours, excused))
 
 
-def twelve_hourly_overrun(p, m, delivered):
-    """delivered: 11 hours of yesterday, then 24 of today."""
+def twelve_hourly_overrun(p, m, delivered, excused=(0,) * (YESTERDAY + TODAY)):
+    """delivered, excused: 11 hours of yesterday, then 24 of today."""
     require_hours(YESTERDAY + TODAY, delivered)
+    require_hours(YESTERDAY + TODAY, excused)
     require_figures(GIGAJOULES, p, m)
     require_rows(MEGAJOULES, delivered)
-    return twelve_hourly_quantity(p, m, delivered)
+    require_excused(delivered, excused)
+    return twelve_hourly_quantity(p, m, compared(delivered, excused))
 
 
 def daily_overruns(hours, metered, schedules):
@@ -122,18 +160,25 @@ def daily_overruns(hours, metered, schedules):
     return daily_quantities(hours, metered, schedules)
 
 
-def day_overruns(p, m, yesterday, hours, schedules, metered):
-    """The four overruns of a day and the greatest of them, which is charged (cl. 7.2)."""
+def day_overruns(p, m, yesterday, hours, schedules, metered, excused=NOTHING_EXCUSED):
+    """The four overruns of a day and the greatest of them, which is charged (cl. 7.2). The daily
+    ones count what is excused."""
     require_hours(YESTERDAY, yesterday)
     require_sides_length(hours)
+    require_hours(YESTERDAY, excused.yesterday)
+    require_sides_length(excused)
     require_figures(GIGAJOULES, p, m, *schedules)
     require_figures(BACKHAUL_METERED, *metered)
     require_rows(MEGAJOULES, yesterday)
     require_sides_bound(hours)
+    require_excused(yesterday, excused.yesterday)
+    require_sides_excused(hours, excused)
 
+    sides = compared_sides(hours, excused)
+    both_days = [*compared(yesterday, excused.yesterday), *sides.delivered]
     four = (
-        hourly_quantity(m, hours),
-        twelve_hourly_quantity(p, m, [*yesterday, *hours.delivered]),
+        hourly_quantity(m, sides),
+        twelve_hourly_quantity(p, m, both_days),
         *daily_quantities(hours, metered, schedules),
     )
     return Overruns(*four, greatest=max(four))

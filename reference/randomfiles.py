@@ -6,12 +6,24 @@ A file is a list of its fields' bytes until all damage is done.
 import gascases
 import overruncases
 import sharecases
-from bounds import DAY_NUMBER, ENTRIES, MEGAJOULES, NAME, POINTS, SHIPPERS, SIDE
+from bounds import DAY_NUMBER, ENTRIES, EXCUSED_MEGAJOULES, MEGAJOULES, NAME, POINTS, SHIPPERS, SIDE
 from cases import put, some
 from dayfile import Counts, day_of, tables_of
-from dayformat import ENTRY, FORMS, HEAD, HEADER, METER, POINT, SHIPPER, write_field
+from dayformat import (
+    ENTRY,
+    EXCUSED,
+    FORMS,
+    HEAD,
+    HEADER,
+    HOURS,
+    METER,
+    POINT,
+    SHIPPER,
+    write_field,
+)
+from days import some_excused
 
-FULL = Counts(SHIPPERS[-1], POINTS[-1], ENTRIES[-1], SHIPPERS[-1])
+FULL = Counts(SHIPPERS[-1], POINTS[-1], ENTRIES[-1], SHIPPERS[-1], SHIPPERS[-1])
 
 
 def some_count(chance, most):
@@ -19,10 +31,11 @@ def some_count(chance, most):
 
 
 def counts_up_to(chance, shippers, points):
-    """Entries and meters are some of those that can be."""
+    """Entries, meters and those with excused hours are some of those that can be."""
     shippers, points = some_count(chance, shippers), some_count(chance, points)
     entries = some_count(chance, min(shippers * points, ENTRIES[-1]))
-    return Counts(shippers, points, entries, some_count(chance, shippers))
+    meters = some_count(chance, shippers)
+    return Counts(shippers, points, entries, meters, some_count(chance, meters))
 
 
 def few(chance):
@@ -70,8 +83,9 @@ def some_entries(chance, points, names, count):
 
 
 def some_meter(chance, name):
-    p, m, *sides, yesterday, delivered, received = overruncases.some_day(chance, None)
-    receipt, delivery = sides[:3], sides[3:]
+    p, m, *arguments = overruncases.some_day(chance, None)
+    receipt, delivery = arguments[:3], arguments[3:6]
+    yesterday, delivered, received = arguments[6:9]
     by_kind = [figure for pair in zip(receipt, delivery) for figure in pair]
     return (name, p, m, *yesterday, *delivered, *received, *by_kind)
 
@@ -90,13 +104,16 @@ def some_day(chance, counts):
         lists = without_firm(lists)
     points = some_points(chance, counts.points)
     point_rows, entry_rows = some_entries(chance, points, names, counts.entries)
+    meters = [some_meter(chance, name) for name in sorted(chance.sample(names, counts.meters))]
+    excused = [some_excused(chance, row) for row in sorted(chance.sample(meters, counts.excused))]
     return day_of(
         {
             HEAD: [(some(chance, DAY_NUMBER), free_flow, compressor)],
             SHIPPER: list(zip(names, *lists)),
             POINT: point_rows,
             ENTRY: entry_rows,
-            METER: [some_meter(chance, name) for name in sorted(chance.sample(names, counts.meters))],
+            METER: meters,
+            EXCUSED: excused,
         }
     )
 
@@ -170,6 +187,25 @@ def take_mdq(chance, fields):
     return put(fields, place, chance.choice((field, with_number(field, HEADER, 2, NAME[0]))))
 
 
+def metered_hour(fields, name, hour):
+    """The greatest of a shipper's metered hours at a place; 0 where it has no meter."""
+    at = column_at(FORMS[METER], HOURS[METER].start + hour)
+    meters = [field for field in fields if field[0] == METER and field[HEADER : HEADER + 2] == name]
+    return max((int.from_bytes(field[at : at + 4], "big") for field in meters), default=0)
+
+
+def raise_excused(chance, fields):
+    """An excused quantity as large as its metered hour, or one larger."""
+    places = [place for place, field in enumerate(fields) if field[0] == EXCUSED]
+    if not places:
+        return fields
+    place, hour = chance.choice(places), chance.randrange(59)
+    metered = metered_hour(fields, fields[place][HEADER : HEADER + 2], hour)
+    quantity = min(metered + chance.randint(0, 1), EXCUSED_MEGAJOULES[-1])
+    at = column_at(FORMS[EXCUSED], HOURS[EXCUSED].start + hour)
+    return put(fields, place, with_number(fields[place], at, 4, quantity))
+
+
 def add_row(chance, fields):
     """One row more behind the last of a tag, its key one higher."""
     tag = fields[some_place(chance, fields)][0]
@@ -202,7 +238,7 @@ def leave_out(chance, fields):
 def lengthen(chance, fields):
     """A few bytes more at the end, or a field of another day."""
     other = fields_of(some_day(chance, few(chance)))
-    few_bytes = bytes(chance.choice((0, 1, 5, 6, 255)) for _ in range(chance.randint(1, 4)))
+    few_bytes = bytes(chance.choice((0, 1, 5, 6, 9, 255)) for _ in range(chance.randint(1, 4)))
     return [*fields, chance.choice((few_bytes, other[some_place(chance, other)]))]
 
 
@@ -212,7 +248,8 @@ DAMAGES = {
     change_bytes: 1,
     change_header: 1,
     change_figure: 3,
-    take_mdq: 2,
+    take_mdq: 3,
+    raise_excused: 2,
     add_row: 2,
     swap: 1,
     double: 1,

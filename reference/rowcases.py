@@ -2,7 +2,7 @@
 
 from cases import WORD, Figure
 from dayfile import TABLES, Counts, day_of, tables_of
-from dayformat import ENTRY, FORMS, METER, POINT, SHIPPER
+from dayformat import ENTRY, EXCUSED, FORMS, METER, POINT, SHIPPER
 from dayvalues import number_at, point_at, row_at, shipper_at
 from numberfaults import limits, miscounted, padded, row_edits, some_edited
 from rowfaults import SEVERAL, edited
@@ -12,10 +12,18 @@ from valuecases import InMemory, ValueRoutine
 METERS = [(7, *range(101, 168)), (9, *range(201, 268))]
 METERED = {**SEVERAL, POINT: [], ENTRY: [], METER: METERS}
 
+# Two rows of excused hours, beside a point but no meter: a row is tested alone.
+REPROFILED = {
+    **SEVERAL,
+    POINT: SEVERAL[POINT][:1],
+    ENTRY: [],
+    EXCUSED: [(7, *range(301, 360)), (9, *range(401, 460))],
+}
+
 
 def tables_for(tag):
     """A day with several rows of a tag."""
-    return METERED if tag == METER else SEVERAL
+    return {METER: METERED, EXCUSED: REPROFILED}.get(tag, SEVERAL)
 
 
 def asked_rows(tag):
@@ -79,12 +87,14 @@ def number_cases(chance):
     """Numbers of each table, those past a row's end and past the list's; and counts by chance, that
     say nothing of the list's length."""
     several, metered = day_of(SEVERAL), day_of(METERED)
+    reprofiled = day_of({**METERED, METER: METERS[:1], EXCUSED: REPROFILED[EXCUSED]})
     asked = [(0, 0), (1, 2), (2, 1), (3, 5), (WORD[-1], 0), (0, WORD[-1])]
-    greatest = several._replace(counts=Counts(*[WORD[-1]] * 4))
-    counted = [Counts(*(chance.randint(0, 2) for _ in range(4))) for _ in range(4)]
+    greatest = several._replace(counts=Counts(*[WORD[-1] for _ in TABLES]))
+    counted = [Counts(*(chance.randint(0, 2) for _ in TABLES)) for _ in TABLES]
     return [
         *([several, tag, *place] for tag in TABLES for place in asked),
         *([metered, METER, *place] for place in ((0, 0), (0, 67), (1, 3), (1, 67), (1, 68))),
+        *([reprofiled, EXCUSED, *place] for place in ((0, 0), (0, 59), (1, 1), (1, 59), (1, 60))),
         *([greatest, tag, WORD[-1], WORD[-1]] for tag in TABLES),
         *(
             [several._replace(counts=counts), tag, chance.randint(0, 3), chance.randint(0, 3)]
@@ -130,7 +140,7 @@ def point_cases(chance):
     return row_cases(POINT, chance)
 
 
-TAG, ROW, PLACE = Figure(range(SHIPPER, METER + 1)), Figure(WORD), Figure(WORD)
+TAG, ROW, PLACE = Figure(TABLES), Figure(WORD), Figure(WORD)
 
 ROUTINES = (
     ValueRoutine("number_at", (InMemory(), TAG, ROW, PLACE), answer_number, number_cases),

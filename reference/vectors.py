@@ -14,6 +14,7 @@ import columncases
 import daycases
 import decimalcases
 import entrycases
+import excusedcases
 import filecases
 import gascases
 import hourcases
@@ -65,6 +66,7 @@ PROGRAMS = (
             *metercases.ROUTINES,
             *hourcases.ROUTINES,
             *decimalcases.ROUTINES,
+            *excusedcases.ROUTINES,
         ),
         filecases.cases_of,
         valuecases.words_of,

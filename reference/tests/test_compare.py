@@ -38,7 +38,7 @@ class Files(unittest.TestCase):
         numbers = Counter(map(compare.refusal_of, self.files))
         self.assertEqual({None, 1, 2, 3, 4, 5}, set(numbers))
         self.assertGreater(min(numbers.values()), 20)
-        self.assertLessEqual({0, 25_551}, {len(file) for file in self.files})
+        self.assertLessEqual({0, 40_975}, {len(file) for file in self.files})
 
     def test_points_are_refused(self):
         listings = [listing("points", [], file) for file in self.files]

@@ -1,4 +1,4 @@
-"""The day file: its bytes, every kind of fault, and both round trips."""
+"""The day file without tag 9: its bytes, every kind of fault, and both round trips."""
 
 from cases import put
 from dayfile import Counts, Day, Head, file_size, read_day, write_day
@@ -58,7 +58,7 @@ class Bytes(RuleTest):
         self.assertEqual(67, field[-1])
 
     def test_lengths(self):
-        self.assertEqual([12, 22, 7, 9, 270], [FORMS[tag].length for tag in FORMS])
+        self.assertEqual([12, 22, 7, 9, 270, 238], [FORMS[tag].length for tag in FORMS])
 
     def test_round_trips(self):
         self.assertEqual(END, len(SMALL))
@@ -67,16 +67,17 @@ class Bytes(RuleTest):
 
     def test_head_alone(self):
         file = file_of((HEAD, (0xFFFF_FFFF, 1_000_000, 1_000_000)))
-        day = Day(Head(0xFFFF_FFFF, 1_000_000, 1_000_000), Counts(0, 0, 0, 0), [])
+        day = Day(Head(0xFFFF_FFFF, 1_000_000, 1_000_000), Counts(0, 0, 0, 0, 0), [])
         self.assertEqual(day, read_day(file, room=0))
         self.assertEqual(file, write_day(day, room=15))
 
     def test_full_day(self):
         day = full_day()
-        self.assertEqual((64, 32, 512, 64), day.counts)
-        file = write_day(day, room=25_551)
-        self.assertEqual(25_551, len(file))
-        self.assertEqual(25_551, file_size(day.counts))
+        self.assertEqual((64, 32, 512, 64, 64), day.counts)
+        self.assertEqual(10_720, len(day.numbers))
+        file = write_day(day, room=40_975)
+        self.assertEqual(40_975, len(file))
+        self.assertEqual(40_975, file_size(day.counts))
         self.assertEqual(day, read_day(file, room=len(day.numbers)))
         self.assertEqual(file, write_day(read_day(file)))
 
@@ -133,9 +134,9 @@ class Tags(RuleTest):
 
 
 def bounds():
-    """Each number of each kind of row: tag, column, least, greatest, largest that fits."""
-    for tag, form in FORMS.items():
-        for index, column in enumerate(form.columns):
+    """Each number of the rows that the small file has: tag, column, least, greatest, largest that fits."""
+    for tag in STARTS:
+        for index, column in enumerate(FORMS[tag].columns):
             yield tag, index, column.bound[0], column.bound[-1], 256**column.width - 1
 
 

@@ -1,8 +1,8 @@
 """Rows and columns of a day in memory, and the shares from its numbers."""
 
 from dayfile import Counts, write_day
-from dayformat import ENTRY, METER, POINT, SHIPPER
-from days import full_day, make_day, meter
+from dayformat import ENTRY, EXCUSED, METER, POINT, SHIPPER
+from days import excused_gas, full_day, make_day, meter
 from dayshares import share_day
 from dayvalues import number_at, point_at, row_at, shipper_at, shipper_column
 from numbershares import share_numbers
@@ -15,6 +15,7 @@ DAY = make_day(
     points=[(0, 3, 11), (1, 3, 12), (1, 4, 13)],
     entries=[(0, 3, 7, 14)],
     meters=[meter(7, 15, 16)],
+    excused=[excused_gas(7, 17, 18)],
 )
 
 
@@ -25,12 +26,12 @@ def changed(at, number, day=DAY):
 
 def with_rows(tag, rows):
     """A day of so many rows of zeros of one table."""
-    counts = [rows if other == tag else 0 for other in (SHIPPER, POINT, ENTRY, METER)]
-    widths = {SHIPPER: 6, POINT: 3, ENTRY: 4, METER: 68}
+    widths = {SHIPPER: 6, POINT: 3, ENTRY: 4, METER: 68, EXCUSED: 60}
+    counts = [rows if other == tag else 0 for other in widths]
     return make_day()._replace(counts=Counts(*counts), numbers=[0] * rows * widths[tag])
 
 
-MOST = ((SHIPPER, 64), (POINT, 32), (ENTRY, 512), (METER, 64))
+MOST = ((SHIPPER, 64), (POINT, 32), (ENTRY, 512), (METER, 64), (EXCUSED, 64))
 
 
 class Numbers(RuleTest):
@@ -44,20 +45,23 @@ class Numbers(RuleTest):
         self.number(4, POINT, 2, 1)
         self.number(14, ENTRY, 0, 3)
         self.number(16, METER, 0, 2)
+        self.number(7, EXCUSED, 0, 0)
+        self.number(18, EXCUSED, 0, 59)
 
     def test_past_a_row_stands_the_next(self):
         self.number(9, SHIPPER, 0, 6)
         self.number(3, SHIPPER, 2, 1)
         self.number(7, POINT, 3, 2)
+        self.number(17, METER, 1, 1)
 
     def test_past_the_list(self):
-        self.number(0, METER, 1, 0)
+        self.number(0, EXCUSED, 1, 0)
         self.number(0, SHIPPER, 2**32 - 1, 0)
         self.number(0, SHIPPER, 0, 2**32 - 1)
-        self.number(0, POINT, 0, 0, day=DAY._replace(counts=Counts(*[2**32 - 1] * 4)))
+        self.number(0, POINT, 0, 0, day=DAY._replace(counts=Counts(*[2**32 - 1] * 5)))
 
     def test_counts_are_not_held_to_the_list(self):
-        self.number(9, POINT, 0, 0, day=DAY._replace(counts=Counts(1, 0, 0, 0)))
+        self.number(9, POINT, 0, 0, day=DAY._replace(counts=Counts(1, 0, 0, 0, 0)))
 
 
 class Rows(RuleTest):
@@ -72,7 +76,7 @@ class Rows(RuleTest):
     def test_unequal_lists(self):
         for numbers in ([], DAY.numbers[:-1], [*DAY.numbers, 0]):
             self.row_refused(9, 0, DAY._replace(numbers=numbers), SHIPPER, 0)
-        self.row_refused(9, 0, DAY._replace(counts=Counts(2**32 - 1, 3, 1, 1)), SHIPPER, 0)
+        self.row_refused(9, 0, DAY._replace(counts=Counts(2**32 - 1, 3, 1, 1, 1)), SHIPPER, 0)
 
     def test_counts(self):
         """Each count at its bound, where the row is refused, and one beyond it."""
@@ -88,7 +92,7 @@ class Rows(RuleTest):
                 self.row_refused(3, place, day, SHIPPER, 1)
 
     def test_rows_past_the_last(self):
-        for tag, rows in ((SHIPPER, 2), (POINT, 3), (ENTRY, 1), (METER, 1)):
+        for tag, rows in ((SHIPPER, 2), (POINT, 3), (ENTRY, 1), (METER, 1), (EXCUSED, 1)):
             self.row_refused(3, 0, DAY, tag, rows)
             self.row_refused(3, 0, DAY, tag, 2**32 - 1)
 
@@ -106,6 +110,8 @@ class Rows(RuleTest):
         self.row_refused(3, 1, changed(17, 100_000_001), POINT, 1)
         self.row_refused(3, 0, changed(21, 2), ENTRY, 0)
         self.row_refused(3, 0, changed(24, 100_000_001), ENTRY, 0)
+        self.row_refused(3, 0, changed(93, 0), EXCUSED, 0)
+        self.row_refused(3, 0, changed(152, 2**32), EXCUSED, 0)
 
     def test_another_rows_fault(self):
         day = changed(6, 0)
@@ -189,5 +195,5 @@ class Shares(RuleTest):
 
     def test_names_and_other_tables(self):
         shares = share_numbers(DAY)
-        for at, number in ((0, 0), (6, 65_536), (12, 2), (25, 0)):
+        for at, number in ((0, 0), (6, 65_536), (12, 2), (25, 0), (93, 0), (152, 2**32)):
             self.assertEqual(shares, share_numbers(changed(at, number)))

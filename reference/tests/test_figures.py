@@ -2,12 +2,14 @@
 
 import unittest
 
+from cases import put
 from cormcushion import listing
 from dayfile import write_day
 from days import make_day
 from dayshares import share_day
 from overruns import (
     BackhaulMetered,
+    Excused,
     Schedules,
     Sides,
     day_overruns,
@@ -138,6 +140,35 @@ class Overruns(unittest.TestCase):
         )
         self.assertEqual((0, 288_000, 0, 0, 288_000), overruns)
         self.assertEqual(103_392, overrun_charge(OVERRUN_RATE, overruns.greatest))
+
+    def steady(self, yesterday, delivered):
+        """The day of 288,000 MJ with so much excused of its delivered hours."""
+        return day_overruns(
+            1_000,
+            1_000,
+            [48_000] * 11,
+            Sides([48_000] * 24, [0] * 24),
+            Schedules(0, 1_152, 0, 0),
+            BackhaulMetered(0, 0),
+            Excused(yesterday, delivered, [0] * 24),
+        )
+
+    def test_excused_gas_is_not_compared(self):
+        self.assertEqual((0, 0, 0, 0, 0), self.steady([1_000] * 11, [1_000] * 24))
+        self.assertEqual((0, 276_000, 0, 0, 276_000), self.steady([0] * 11, [1_000, *[0] * 23]))
+        self.assertEqual((0, 144_000, 0, 0, 144_000), self.steady([0] * 11, [48_000, *[0] * 23]))
+        self.assertEqual((0, 287_000, 0, 0, 287_000), self.steady([1_000, *[0] * 10], [0] * 24))
+        excused = put([0] * 35, 11, 1_000)
+        self.assertEqual(276_000, twelve_hourly_overrun(1_000, 1_000, [48_000] * 35, excused))
+
+    def test_daily_counts_excused_gas(self):
+        hours, excused = Sides([50_001] * 24, [44_002] * 24), Excused([0] * 11, [1] * 24, [1] * 24)
+        overruns = day_overruns(
+            1_000, 1_000, [0] * 11, hours, Schedules(1_200, 1_200, 0, 0), BackhaulMetered(0, 0), excused
+        )
+        self.assertEqual((24, 468_000, 0, 24, 468_000), overruns)
+        self.assertEqual(24, hourly_overrun(1_000, hours, excused))
+        self.assertEqual(48, hourly_overrun(1_000, hours))
 
     def test_daily_counts_backhaul_and_the_others_leave_it_out(self):
         overruns = day_overruns(

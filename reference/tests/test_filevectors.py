@@ -8,7 +8,7 @@ from vectors import PROGRAMS, input_of
 
 # What the program `filevectors` has room for.
 MOST_WORDS = 16_384
-MOST_ROOM = {NUMBERS: 6_881, BYTES: 25_552}
+MOST_ROOM = {NUMBERS: 10_721, BYTES: 40_976}
 
 # 0 where accepted.
 REFUSALS = {

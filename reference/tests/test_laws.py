@@ -140,6 +140,16 @@ class OverrunLaws(Laws):
             self.assertEqual(0, twelve_hourly_overrun(p, m, hours))
             self.assertEqual(1, twelve_hourly_overrun(p, m, [hours[0] + 1, *hours[1:]]))
 
+    def test_excused_gas_never_raises_an_overrun(self):
+        for _ in range(100):
+            p, m = self.chance.randint(0, 100), self.chance.randint(0, 100)
+            hours = [self.chance.randint(0, 9_000) for _ in range(35)]
+            excused = [self.chance.randint(0, hour) for hour in hours]
+            left = [hour - off for hour, off in zip(hours, excused)]
+            over = twelve_hourly_overrun(p, m, hours, excused)
+            self.assertEqual(twelve_hourly_overrun(p, m, left), over)
+            self.assertLessEqual(over, twelve_hourly_overrun(p, m, hours))
+
 
 class FileLaws(Laws):
     def test_read_after_write(self):

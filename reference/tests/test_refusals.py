@@ -3,7 +3,9 @@
 from cases import put
 from dayshares import share_day
 from overruns import (
+    NOTHING_EXCUSED,
     BackhaulMetered,
+    Excused,
     Schedules,
     Sides,
     daily_overruns,
@@ -145,6 +147,29 @@ class Overruns(RuleTest):
         self.refused(3, 0, twelve_hourly_overrun, 0, MILLION + 1, put([0] * 35, 9, HOUR + 1))
         self.refused(3, 34, twelve_hourly_overrun, 0, 0, put([0] * 35, 34, HOUR + 1))
 
+    def excused(self, yesterday=None, delivered=None, received=None):
+        """49 excused in an hour of each list, where 48 were metered."""
+        lists = zip((11, 24, 24), (yesterday, delivered, received))
+        return Excused(*([49 if hour == place else 0 for hour in range(count)] for count, place in lists))
+
+    def test_excused(self):
+        day = Sides([48] * 24, [48] * 24)
+        whole = Excused([48] * 11, [48] * 24, [48] * 24)
+        self.assertEqual(0, hourly_overrun(0, day, whole))
+        self.refused(9, 0, hourly_overrun, MILLION + 1, day, Sides([0] * 24, [0] * 23))
+        self.refused(9, 0, hourly_overrun, MILLION + 1, day, Sides([0] * 25, [0] * 24))
+        self.refused(3, 0, hourly_overrun, MILLION + 1, day, self.excused(None, 5, 3))
+        self.refused(3, 23, hourly_overrun, 0, self.sides(received_hour=23), self.excused(None, 5, 3))
+        self.refused(3, 5, hourly_overrun, 0, day, self.excused(None, 5, 3))
+        self.refused(3, 3, hourly_overrun, 0, day, self.excused(None, None, 3))
+
+        self.assertEqual(0, twelve_hourly_overrun(0, 0, [48] * 35, [48] * 35))
+        self.refused(9, 0, twelve_hourly_overrun, MILLION + 1, 0, [48] * 35, [0] * 34)
+        self.refused(9, 0, twelve_hourly_overrun, 0, MILLION + 1, [48] * 35, [0] * 36)
+        self.refused(3, 0, twelve_hourly_overrun, 0, MILLION + 1, [48] * 35, put([0] * 35, 34, 49))
+        self.refused(3, 9, twelve_hourly_overrun, 0, 0, put([48] * 35, 9, HOUR + 1), [49] * 35)
+        self.refused(3, 34, twelve_hourly_overrun, 0, 0, [48] * 35, put([0] * 35, 34, 49))
+
     def test_daily(self):
         full = Sides([HOUR] * 24, [HOUR] * 24)
         greatest = daily_overruns(full, BackhaulMetered(BACKHAUL, BACKHAUL), self.NONE)
@@ -162,8 +187,17 @@ class Overruns(RuleTest):
         self.refused(3, 5, daily_overruns, self.sides(5, 3), self.NO_BACKHAUL, self.NONE)
         self.refused(3, 3, daily_overruns, self.sides(None, 3), self.NO_BACKHAUL, self.NONE)
 
-    def day(self, p=0, m=0, yesterday=(0,) * 11, hours=SIDES, schedules=NONE, metered=NO_BACKHAUL):
-        return day_overruns(p, m, list(yesterday), hours, schedules, metered)
+    def day(
+        self,
+        p=0,
+        m=0,
+        yesterday=(0,) * 11,
+        hours=SIDES,
+        schedules=NONE,
+        metered=NO_BACKHAUL,
+        excused=NOTHING_EXCUSED,
+    ):
+        return day_overruns(p, m, list(yesterday), hours, schedules, metered, excused)
 
     def test_day(self):
         bad_yesterday = put([0] * 11, 7, HOUR + 1)
@@ -178,6 +212,20 @@ class Overruns(RuleTest):
         self.refused(3, 7, self.day, **faulty)
         self.refused(3, 5, self.day, hours=self.sides(5, 3))
         self.refused(3, 3, self.day, hours=self.sides(received_hour=3))
+
+    def test_day_excused(self):
+        day = {"yesterday": [48] * 11, "hours": Sides([48] * 24, [48] * 24)}
+        whole = Excused([48] * 11, [48] * 24, [48] * 24)
+        self.assertEqual((0, 0, 1_152, 1_152, 1_152), self.day(**day, excused=whole))
+        for index in range(3):
+            short = Excused(*(hours[index == place :] for place, hours in enumerate(whole)))
+            self.refused(9, 0, self.day, p=MILLION + 1, **day, excused=short)
+        self.refused(3, 0, self.day, m=MILLION + 1, **day, excused=self.excused(7, 5, 3))
+        beyond = {**day, "hours": Sides([48] * 24, put([48] * 24, 20, HOUR + 1))}
+        self.refused(3, 20, self.day, **beyond, excused=self.excused(7, 5, 3))
+        self.refused(3, 7, self.day, **day, excused=self.excused(7, 5, 3))
+        self.refused(3, 5, self.day, **day, excused=self.excused(None, 5, 3))
+        self.refused(3, 3, self.day, **day, excused=self.excused(None, None, 3))
 
 
 class UseGas(RuleTest):
