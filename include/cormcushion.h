@@ -20,7 +20,7 @@
  * before these a kind, which is 0 today. Where the number is 0 the call is accepted and the figure is its answer; else the call is
  * refused, the figure is the refusal's place, and everything lent is as it was. docs/RULES.md says what each number means. A place is
  * the first byte of a field in a file, a row or an hour from 0 in a list, else 0; it does not say which list of a call is meant.
- * Figures and places have room in their digits for every input: in a file of any length the place is at most 25,551. */
+ * Figures and places have room in their digits for every input: in a file of any length the place is at most 40,975. */
 #ifndef CORMCUSHION_H
 #define CORMCUSHION_H
 
@@ -79,10 +79,11 @@ uint64_t cormcushion_check_day(const uint8_t *file, size_t file_length);
 /* A day file's numbers.
  * Reads:    file.
  * Writes:   every number of the day's tables, row by row in the file's order, to the front of `numbers`; to `day` the day's number,
- *           the free flow and the compressor capacity, then how many shippers, points, entries and meters there are.
- * Figure:   how many numbers there are; 6,880 at most.
+ *           the free flow and the compressor capacity, then how many shippers, points, entries, meters and rows of excused hours
+ *           there are.
+ * Figure:   how many numbers there are; 10,720 at most.
  * Refuses:  as cormcushion_check_day; 7 at 0 where there are more numbers than the room. */
-uint64_t cormcushion_read_day(const uint8_t *file, size_t file_length, uint32_t day[7], size_t *numbers, size_t numbers_room);
+uint64_t cormcushion_read_day(const uint8_t *file, size_t file_length, uint32_t day[8], size_t *numbers, size_t numbers_room);
 
 /* One sharing round, in gigajoules.
  * Reads:    the capacity, and for each row its weight and its need.
@@ -114,6 +115,19 @@ uint64_t cormcushion_share_day(uint32_t free_flow, uint32_t compressor, const ui
 uint64_t cormcushion_overruns(uint32_t rate, uint32_t p, uint32_t m, const uint64_t yesterday[11], const uint64_t delivered[24],
                               const uint64_t received[24], const uint32_t schedules[4], const uint64_t metered[2],
                               uint64_t overruns[5]);
+
+/* The same with what is excused in each hour, in megajoules (cl. 5.4): it is taken off the metered hour for the hourly and the
+ * twelve-hourly overrun; the daily ones go on counting it. Where nothing is excused the answer is that of cormcushion_overruns.
+ * Reads:    as cormcushion_overruns; the excused quantities, hour by hour.
+ * Writes:   as cormcushion_overruns.
+ * Figure:   as cormcushion_overruns.
+ * Refuses:  as cormcushion_overruns; then 3 at the hour from 0 where more is excused than was metered, the lists in the order
+ *           yesterday, delivered, received. */
+uint64_t cormcushion_overruns_excused(uint32_t rate, uint32_t p, uint32_t m, const uint64_t yesterday[11],
+                                      const uint64_t delivered[24], const uint64_t received[24], const uint32_t schedules[4],
+                                      const uint64_t metered[2], const uint64_t excused_yesterday[11],
+                                      const uint64_t excused_delivered[24], const uint64_t excused_received[24],
+                                      uint64_t overruns[5]);
 
 /* A day's whole energies and volumes from a flow computer's readings.
  * Reads:    for each hour its kind, 0 measured, 1 substituted, 2 missing, and two numbers: of a measured hour the volume in cubic

@@ -91,6 +91,7 @@ _list_points = _typed("cormcushion_list_points", ctypes.c_char_p, ctypes.c_size_
 _month_statement = _typed("cormcushion_month_statement", *_LIST * 2)
 _share_day = _typed("cormcushion_share_day", *[ctypes.c_uint32] * 2, *_LIST * 8, ctypes.c_void_p)
 _overruns = _typed("cormcushion_overruns", *[ctypes.c_uint32] * 3, *[ctypes.c_void_p] * 6)
+_overruns_excused = _typed("cormcushion_overruns_excused", *[ctypes.c_uint32] * 3, *[ctypes.c_void_p] * 9)
 _readings = _typed("cormcushion_readings", *[ctypes.c_void_p] * 6)
 
 
@@ -198,14 +199,20 @@ def share_day(
     return DayShares(*map(list, lent), list(levels), left)
 
 
-def overruns(p, m, yesterday, delivered, received, schedules, metered, rate=OVERRUN_RATE):
+def _hours(yesterday, delivered, received):
+    """11 delivered hours of yesterday, 24 delivered and 24 received ones of today."""
+    return [_counted(yesterday, 11), _counted(delivered, 24), _counted(received, 24)]
+
+
+def overruns(p, m, yesterday, delivered, received, schedules, metered, rate=OVERRUN_RATE, excused=None):
     """One shipper's overruns of a day and their charge.
 
     P and M in gigajoules; 11 delivered hours of yesterday, 24 delivered and 24 received ones of today, in megajoules; schedules in
     gigajoules: forward receipt, forward delivery, backhaul receipt, backhaul delivery; backhaul metered in megajoules: receipt,
-    delivery.
+    delivery. What is excused under cl. 5.4 is three lists as those of the hours, yesterday, delivered, received; None is nothing.
     """
-    hours = [_counted(yesterday, 11), _counted(delivered, 24), _counted(received, 24)]
+    hours = _hours(yesterday, delivered, received)
+    excused_hours = [] if excused is None else _hours(*excused)
     forward_receipt, forward_delivery, backhaul_receipt, backhaul_delivery = schedules
     receipt, delivery = metered
     sides = [
@@ -213,8 +220,9 @@ def overruns(p, m, yesterday, delivered, received, schedules, metered, rate=OVER
         _wide([receipt, delivery]),
     ]
     lent = _wide([0] * 5)
-    places = [_lent(figures)[0] for figures in (*hours, *sides, lent)]
-    cents = _figure(_overruns(_one(rate), _one(p), _one(m), *places))
+    places = [_lent(figures)[0] for figures in (*hours, *sides, *excused_hours, lent)]
+    asked = _overruns if excused is None else _overruns_excused
+    cents = _figure(asked(_one(rate), _one(p), _one(m), *places))
     return Overruns(*lent, cents)
 
 

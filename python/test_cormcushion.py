@@ -68,12 +68,12 @@ def second_share_day(*arguments):
     return day.firm, day.auction, day.lower_tier, day.levels, day.left
 
 
-def second_overruns(p, m, yesterday, delivered, received, schedules, metered, rate):
+def second_overruns(p, m, yesterday, delivered, received, schedules, metered, rate, excused=None):
     refusals.require(rate <= 100_000_000, 3)
     sides = overruns.Sides(delivered, received)
-    over = overruns.day_overruns(
-        p, m, yesterday, sides, overruns.Schedules(*schedules), overruns.BackhaulMetered(*metered)
-    )
+    figures = overruns.Schedules(*schedules), overruns.BackhaulMetered(*metered)
+    taken_off = overruns.NOTHING_EXCUSED if excused is None else overruns.Excused(*excused)
+    over = overruns.day_overruns(p, m, yesterday, sides, *figures, taken_off)
     return (*over, tariff.overrun_charge(rate, over.greatest))
 
 
@@ -200,11 +200,18 @@ class Days(Held):
                 cormcushion.share_day(figure, 1, [0], [0], [0], [0], [0])
 
 
+# 01's day of 288,000 megajoules.
+OVER = (1_000, 1_000, [48_000] * 11, [48_000] * 24, [0] * 24, (0, 1_152, 0, 0), (0, 0))
+
+
 class Meters(Held):
     def meter(self, case, rate):
+        """With what the case excuses, and with nothing."""
         p, m, forward_receipt, backhaul_receipt, receipt, forward_delivery, backhaul_delivery, delivery, *hours = case
         schedules = (forward_receipt, forward_delivery, backhaul_receipt, backhaul_delivery)
-        self.held(cormcushion.overruns, second_overruns, p, m, *hours, schedules, (receipt, delivery), rate)
+        for excused in (hours[3:], None):
+            figures = (p, m, *hours[:3], schedules, (receipt, delivery), rate, excused)
+            self.held(cormcushion.overruns, second_overruns, *figures)
 
     def test_cases(self):
         for case in cases_of(OVERRUN_ROUTINE):
@@ -212,13 +219,31 @@ class Meters(Held):
                 self.meter(case, rate)
 
     def test_worked_figure(self):
-        over = cormcushion.overruns(
-            1_000, 1_000, [48_000] * 11, [48_000] * 24, [0] * 24, (0, 1_152, 0, 0), (0, 0)
-        )
+        over = cormcushion.overruns(*OVER)
         self.assertEqual((0, 288_000, 0, 0, 288_000, 103_392), over)
+
+    def excused(self, figures, *excused):
+        """What both programs answer where these hours are excused."""
+        return self.held(cormcushion.overruns, second_overruns, *figures, 359_000, excused)
+
+    def test_excused_hours(self):
+        none, first = [0] * 24, put([0] * 24, 0, 1_000)
+        self.assertEqual((0, 288_000, 0, 0, 288_000, 103_392), self.excused(OVER, [0] * 11, none, none))
+        self.assertEqual((0,) * 6, self.excused(OVER, [1_000] * 11, [1_000] * 24, none))
+        self.assertEqual((0, 276_000, 0, 0, 276_000, 99_084), self.excused(OVER, [0] * 11, first, none))
+        both = (1_000, 1_000, [0] * 11, [50_001] * 24, [44_002] * 24, (1_200, 1_200, 0, 0), (0, 0))
+        self.assertEqual((24, 468_000, 0, 24, 468_000, 168_012), self.excused(both, [0] * 11, [1] * 24, [1] * 24))
+
+    def test_more_excused_than_metered(self):
+        none = [0] * 24
+        self.assertEqual(("REFUSED", 3, 10), self.excused(OVER, put([0] * 11, 10, 48_001), none, none))
+        self.assertEqual(("REFUSED", 3, 7), self.excused(OVER, [48_000] * 11, put(none, 7, 48_001), none))
+        self.assertEqual(("REFUSED", 3, 0), self.excused(OVER, [0] * 11, [48_000] * 24, [1] * 24))
 
     def test_hours_of_another_length(self):
         self.held(cormcushion.overruns, second_overruns, 1, 1, [0] * 11, [0] * 23, [0] * 24, (0,) * 4, (0, 0), 1)
+        for lengths in ((10, 24, 24), (11, 23, 24), (11, 24, 25)):
+            self.assertEqual(("REFUSED", 9, 0), self.excused(OVER, *([0] * length for length in lengths)))
 
     def test_bytes_are_numbers(self):
         hours = bytes(range(24))
@@ -228,6 +253,8 @@ class Meters(Held):
         for figure in (-1, WIDE):
             with self.assertRaises(OverflowError):
                 cormcushion.overruns(1, 1, [figure] * 11, [0] * 24, [0] * 24, (0,) * 4, (0, 0))
+            with self.assertRaises(OverflowError):
+                cormcushion.overruns(*OVER, excused=([0] * 11, [0] * 24, [figure] * 24))
 
 
 class Months(Held):

@@ -2,9 +2,8 @@
 
 use crate::{require, Answer, Refusal, MOST_BACKHAUL, MOST_GIGAJOULES, MOST_MEGAJOULES};
 
-/// A full file's bytes, and its numbers.
-pub const MOST_BYTES: usize = 25_551;
-pub const MOST_NUMBERS: usize = 6_880;
+/// A full file's numbers.
+pub const MOST_NUMBERS: usize = 10_720;
 
 #[derive(Clone, Copy, Debug, Default, PartialEq, Eq)]
 pub struct Day {
@@ -15,11 +14,12 @@ pub struct Day {
     pub points: usize,
     pub entries: usize,
     pub meters: usize,
+    pub excused: usize,
 }
 
 impl Day {
     pub fn numbers(&self) -> usize {
-        6 * self.shippers + 3 * self.points + 4 * self.entries + 68 * self.meters
+        6 * self.shippers + 3 * self.points + 4 * self.entries + 68 * self.meters + 60 * self.excused
     }
 }
 
@@ -138,24 +138,57 @@ impl<'a> Reader<'a> {
         Ok(rows)
     }
 
-    fn meters(&mut self, names: &[u32]) -> Answer<usize> {
+    fn meters(&mut self, names: &[u32], metered: &mut [u32; 64]) -> Answer<usize> {
         let (mut rows, mut last) = (0, 0);
         let mut shippers = names;
         while let Some(body) = self.body::<270>(5)? {
             let name = u16_at(body, 0);
-            let mut row = [name; 68];
-            for (to, bytes) in row[1..].iter_mut().zip(body[2..].chunks_exact(4)) {
-                *to = u32_at(bytes, 0);
-            }
+            let row: [u32; 68] = named(name, &body[2..]);
             self.require(rows < 64 && name > 0 && meter_is_bounded(&row), 3)?;
             self.require(name > last, 5)?;
             shippers = past(shippers, name);
             self.require(shippers.first() == Some(&name), 5)?;
+            metered[rows] = name;
             self.take(row, 270);
             (rows, last) = (rows + 1, name);
         }
         Ok(rows)
     }
+
+    /// A meter is looked up from where the last one was found; where a key does not rise from the first, since 3 comes before 5.
+    fn excused(&mut self, metered: &[u32]) -> Answer<usize> {
+        let first = self.count - 68 * metered.len();
+        let (mut rows, mut last) = (0, 0);
+        let mut meters = metered;
+        while let Some(body) = self.body::<238>(9)? {
+            let name = u16_at(body, 0);
+            let row: [u32; 60] = named(name, &body[2..]);
+            self.require(rows < 64 && name > 0, 3)?;
+            meters = past(if name > last { meters } else { metered }, name);
+            let found = meters.first() == Some(&name);
+            let own = first + 68 * (metered.len() - meters.len());
+            self.require(!found || is_no_more(&row[1..], &self.numbers[own + 3..own + 62]), 3)?;
+            self.require(found && name > last, 5)?;
+            self.take(row, 238);
+            (rows, last) = (rows + 1, name);
+        }
+        Ok(rows)
+    }
+}
+
+/// A row of a name and figures of four bytes.
+#[inline]
+fn named<const COLUMNS: usize>(name: u32, figures: &[u8]) -> [u32; COLUMNS] {
+    let mut row = [name; COLUMNS];
+    for (to, bytes) in row[1..].iter_mut().zip(figures.chunks_exact(4)) {
+        *to = u32_at(bytes, 0);
+    }
+    row
+}
+
+/// No hour is excused more than was metered in it.
+fn is_no_more(excused: &[u32], metered: &[usize]) -> bool {
+    excused.iter().zip(metered).fold(true, |kept, (&quantity, &hour)| kept & (quantity as usize <= hour))
 }
 
 /// The rising names from the first that is not below.
@@ -178,16 +211,17 @@ fn meter_is_bounded(row: &[u32; 68]) -> bool {
 
 /// Reads a day's file into numbers of our own.
 pub fn read_into(file: &[u8], numbers: &mut [usize; MOST_NUMBERS]) -> Answer<Day> {
-    let (mut names, mut keys) = ([0; 64], [0; 32]);
+    let (mut names, mut keys, mut metered) = ([0; 64], [0; 32], [0; 64]);
     let mut reader = Reader { file, at: 0, numbers, count: 0 };
     let [day, free_flow, compressor] = reader.head()?;
     let shippers = reader.shippers(&mut names)?;
     let points = reader.points(&mut keys)?;
     let entries = reader.entries(&names[..shippers], &keys[..points])?;
-    let meters = reader.meters(&names[..shippers])?;
+    let meters = reader.meters(&names[..shippers], &mut metered)?;
+    let excused = reader.excused(&metered[..meters])?;
     let left = file.len() - reader.at;
     reader.require(left == 0, if left < 3 { 1 } else { 2 })?;
-    Ok(Day { day, free_flow, compressor, shippers, points, entries, meters })
+    Ok(Day { day, free_flow, compressor, shippers, points, entries, meters, excused })
 }
 
 /// Reads a day's file: its numbers go to the front of a lent block; a refusal leaves it as it was.

@@ -3,7 +3,7 @@
 use plain::dayfile::{read_day, MOST_NUMBERS};
 use plain::dayshares::{share_day, Table};
 use plain::listing::list_shares;
-use plain::overruns::{charge, overruns, Meter};
+use plain::overruns::{charge, overruns, Hours, Meter};
 use plain::readings::{meter_day, DayGas, Readings};
 use plain::rounds::share_round;
 use plain::{Answer, Refusal};
@@ -34,8 +34,12 @@ impl Words<'_> {
         vec![LENT; self.word() as usize]
     }
 
-    fn hours<const COUNT: usize>(&mut self) -> [u64; COUNT] {
+    fn list_of_hours<const COUNT: usize>(&mut self) -> [u64; COUNT] {
         std::array::from_fn(|_| self.wide())
+    }
+
+    fn hours(&mut self) -> Hours {
+        Hours { yesterday: self.list_of_hours(), delivered: self.list_of_hours(), received: self.list_of_hours() }
     }
 }
 
@@ -83,13 +87,12 @@ fn answer_overruns(words: &mut Words) -> String {
     let meter = Meter {
         p,
         m,
-        yesterday: words.hours(),
-        delivered: words.hours(),
-        received: words.hours(),
+        hours: words.hours(),
         schedules: [forward_receipt, forward_delivery, backhaul_receipt, backhaul_delivery],
         metered: [metered_receipt, metered_delivery],
     };
-    line("overruns_of_day", overruns(&meter).map(|over| over.to_vec()), &[])
+    let excused = words.hours();
+    line("overruns_of_day", overruns(&meter, Some(&excused)).map(|over| over.to_vec()), &[])
 }
 
 /// Of a refused day the stored answers have zeros.
@@ -177,13 +180,16 @@ fn charge_of_the_worked_figure() {
     let meter = Meter {
         p: 1_000,
         m: 1_000,
-        yesterday: [48_000; 11],
-        delivered: [48_000; 24],
-        received: [0; 24],
+        hours: Hours { yesterday: [48_000; 11], delivered: [48_000; 24], received: [0; 24] },
         schedules: [0, 1_152, 0, 0],
         metered: [0, 0],
     };
     let mut lent = [0; 5];
-    assert_eq!(Ok(103_392), charge(359_000, &meter, &mut lent));
+    assert_eq!(Ok(103_392), charge(359_000, &meter, None, &mut lent));
     assert_eq!([0, 288_000, 0, 0, 288_000], lent);
+    let excused = Hours { yesterday: [1_000; 11], delivered: [1_000; 24], received: [0; 24] };
+    assert_eq!(Ok(0), charge(359_000, &meter, Some(&excused), &mut lent));
+    assert_eq!([0; 5], lent);
+    let above = Hours { yesterday: [48_001; 11], ..excused };
+    assert_eq!(Err(Refusal { number: 3, place: 0 }), charge(359_000, &meter, Some(&above), &mut lent));
 }

@@ -5,7 +5,7 @@ use crate::{inputs, library};
 use plain::dayfile::{read_day, MOST_NUMBERS};
 use plain::dayshares::share_day;
 use plain::listing::list_shares;
-use plain::overruns::charge;
+use plain::overruns::{charge, Hours};
 use plain::readings::{meter_day, DayGas};
 use plain::rounds::share_round;
 
@@ -76,18 +76,36 @@ fn meter(chance: &mut Chance) {
         let hour = chance.up_to(23) as usize;
         let beyond = [100_000_000, 100_000_001, u64::MAX][chance.up_to(2) as usize];
         match chance.up_to(5) {
-            0 => meter.yesterday[hour % 11] = beyond,
-            1 => meter.delivered[hour] = beyond,
-            2 => meter.received[hour] = beyond,
+            0 => meter.hours.yesterday[hour % 11] = beyond,
+            1 => meter.hours.delivered[hour] = beyond,
+            2 => meter.hours.received[hour] = beyond,
             3 => meter.m = 1_000_001,
             4 => meter.schedules[hour % 4] = 1_000_001,
             _ => meter.metered[hour % 2] = 2_400_000_001,
         }
     }
     let rate = [359_000, 0, 100_000_000, 100_000_001][chance.up_to(3) as usize];
-    let [mut ours, mut theirs] = [[u64::MAX; 5]; 2];
-    assert_eq!(charge(rate, &meter, &mut theirs), library::charge(rate, &meter, &mut ours));
-    assert_eq!(theirs, ours);
+    let excused = excused(chance, &meter.hours);
+    for excused in [None, Some(&excused)] {
+        let [mut ours, mut theirs] = [[u64::MAX; 5]; 2];
+        assert_eq!(charge(rate, &meter, excused, &mut theirs), library::charge(rate, &meter, excused, &mut ours));
+        assert_eq!(theirs, ours);
+    }
+}
+
+/// Now and then one hour is excused one more than was metered in it, or as much as there can be.
+fn excused(chance: &mut Chance, metered: &Hours) -> Hours {
+    let mut excused = inputs::excused(chance, metered);
+    let hour = chance.up_to(23) as usize;
+    let more = |hour: u64| [hour.saturating_add(1), u64::MAX];
+    let most = chance.up_to(1) as usize;
+    match chance.up_to(8) {
+        0 => excused.yesterday[hour % 11] = more(metered.yesterday[hour % 11])[most],
+        1 => excused.delivered[hour] = more(metered.delivered[hour])[most],
+        2 => excused.received[hour] = more(metered.received[hour])[most],
+        _ => {}
+    }
+    excused
 }
 
 /// Numbers about whole ones and the bound, below zero, and by any bits.
@@ -130,7 +148,7 @@ fn counts(chance: &mut Chance) -> inputs::Counts {
         true => most + chance.one_in(20) as usize,
         false => chance.up_to((most * part / 64) as u64) as usize,
     };
-    inputs::Counts { shippers: some(64), points: some(32), entries: some(512), meters: some(64) }
+    inputs::Counts { shippers: some(64), points: some(32), entries: some(512), meters: some(64), excused: some(64) }
 }
 
 fn file(chance: &mut Chance) {

@@ -2,7 +2,7 @@
 
 use crate::chance::Chance;
 use plain::dayshares::Table;
-use plain::overruns::Meter;
+use plain::overruns::{Hours, Meter};
 use plain::readings::Readings;
 
 const GIGAJOULES: u64 = 1_000_000;
@@ -86,11 +86,23 @@ pub fn meter(chance: &mut Chance) -> Meter {
     Meter {
         p,
         m,
-        yesterday: std::array::from_fn(|_| chance.up_to(most)),
-        delivered: std::array::from_fn(|_| chance.up_to(most)),
-        received: std::array::from_fn(|_| chance.up_to(most)),
+        hours: Hours {
+            yesterday: std::array::from_fn(|_| chance.up_to(most)),
+            delivered: std::array::from_fn(|_| chance.up_to(most)),
+            received: std::array::from_fn(|_| chance.up_to(most)),
+        },
         schedules: std::array::from_fn(|_| chance.some(GIGAJOULES) as u32),
         metered: std::array::from_fn(|_| chance.some(BACKHAUL)),
+    }
+}
+
+/// What is excused of a meter's hours: nothing, all or a part.
+pub fn excused(chance: &mut Chance, metered: &Hours) -> Hours {
+    let mut of = |hour: u64| chance.some(hour.min(MEGAJOULES));
+    Hours {
+        yesterday: metered.yesterday.map(&mut of),
+        delivered: metered.delivered.map(&mut of),
+        received: metered.received.map(&mut of),
     }
 }
 
@@ -116,18 +128,39 @@ fn numbers(body: &mut Vec<u8>, figures: impl IntoIterator<Item = u64>) {
     figures.into_iter().for_each(|figure| body.extend((figure as u32).to_be_bytes()));
 }
 
-/// How many fields of tags 2 to 5 a file has.
+fn hours(body: &mut Vec<u8>, hours: &Hours) {
+    numbers(body, hours.yesterday.into_iter().chain(hours.delivered).chain(hours.received));
+}
+
+/// How many fields of tags 2 to 5 and 9 a file has.
 #[derive(Clone, Copy)]
 pub struct Counts {
     pub shippers: usize,
     pub points: usize,
     pub entries: usize,
     pub meters: usize,
+    pub excused: usize,
 }
 
-pub const FULL: Counts = Counts { shippers: 64, points: 32, entries: 512, meters: 64 };
+/// As many as there may be, and as many without excused hours.
+pub const FULL: Counts = Counts { shippers: 64, points: 32, entries: 512, meters: 64, excused: 64 };
+pub const UNEXCUSED: Counts = Counts { excused: 0, ..FULL };
 
-/// A sound file; its points are receipt and delivery in turn halves.
+fn meter_field(file: &mut Vec<u8>, name: u16, meter: &Meter) {
+    let mut body = name.to_be_bytes().to_vec();
+    numbers(&mut body, [meter.p as u64, meter.m as u64]);
+    hours(&mut body, &meter.hours);
+    numbers(&mut body, meter.schedules.map(u64::from).into_iter().chain(meter.metered));
+    field(file, 5, &body);
+}
+
+fn excused_field(chance: &mut Chance, file: &mut Vec<u8>, name: u16, metered: &Hours) {
+    let mut body = name.to_be_bytes().to_vec();
+    hours(&mut body, &excused(chance, metered));
+    field(file, 9, &body);
+}
+
+/// A sound file; its points are receipt and delivery in turn halves, its excused hours are of meters spread over all.
 pub fn file(chance: &mut Chance, counts: Counts) -> Vec<u8> {
     let mut file = Vec::new();
     let day = day(chance, counts.shippers);
@@ -159,13 +192,12 @@ pub fn file(chance: &mut Chance, counts: Counts) -> Vec<u8> {
         numbers(&mut body, [chance.some(MEGAJOULES)]);
         field(&mut file, 4, &body);
     }
-    for name in names.iter().take(counts.meters) {
-        let meter = meter(chance);
-        let mut body = name.to_be_bytes().to_vec();
-        numbers(&mut body, [meter.p as u64, meter.m as u64]);
-        numbers(&mut body, meter.yesterday.into_iter().chain(meter.delivered).chain(meter.received));
-        numbers(&mut body, meter.schedules.map(u64::from).into_iter().chain(meter.metered));
-        field(&mut file, 5, &body);
+    let meters: Vec<_> = names.iter().take(counts.meters).map(|&name| (name, meter(chance))).collect();
+    meters.iter().for_each(|(name, meter)| meter_field(&mut file, *name, meter));
+    let excused = counts.excused.min(meters.len());
+    for row in 0..excused {
+        let (name, meter) = &meters[row * meters.len() / excused];
+        excused_field(chance, &mut file, *name, &meter.hours);
     }
     file
 }
@@ -213,7 +245,7 @@ fn change_byte(chance: &mut Chance, file: &mut [u8]) {
 pub fn damage(chance: &mut Chance, file: &mut Vec<u8>) {
     match chance.up_to(5) {
         0 => file.truncate(chance.up_to(file.len() as u64) as usize),
-        1 => (0..1 + chance.up_to(30)).for_each(|_| file.push(chance.up_to(6) as u8)),
+        1 => (0..1 + chance.up_to(30)).for_each(|_| file.push(chance.up_to(9) as u8)),
         2 | 3 => move_field(chance, file),
         _ => change_byte(chance, file),
     }

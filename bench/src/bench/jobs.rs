@@ -1,9 +1,9 @@
 //! The work that is timed: the same inputs for both sides, one in a turn.
 
 use crate::chance::Chance;
-use crate::inputs::{self, FULL};
+use crate::inputs::{self, Counts, FULL, UNEXCUSED};
 use crate::library;
-use plain::dayfile::{read_day, MOST_BYTES, MOST_NUMBERS};
+use plain::dayfile::{read_day, MOST_NUMBERS};
 use plain::dayshares::share_day;
 use plain::listing::list_shares;
 use plain::overruns::charge;
@@ -66,13 +66,14 @@ pub fn days(rows: usize) -> Job {
     }
 }
 
-pub fn full_files() -> Job {
+pub fn full_files(counts: Counts, kind: &str) -> Job {
     let chance = &mut Chance::new();
-    let files = made(|| inputs::file(chance, FULL));
-    assert!(files.iter().all(|file| file.len() == MOST_BYTES));
+    let files = made(|| inputs::file(chance, counts));
+    let bytes = files[0].len();
+    assert!(files.iter().all(|file| file.len() == bytes));
     let [mut ours, mut plain] = [[0; MOST_NUMBERS]; 2];
     Job {
-        name: format!("reading a full file of {MOST_BYTES} bytes"),
+        name: format!("reading a full file {kind}, {bytes} bytes"),
         ours: Box::new(move |turn| {
             let file = &files[turn % INPUTS];
             _ = black_box(library::read_day(file, black_box(&mut ours)));
@@ -92,12 +93,34 @@ pub fn meters() -> Job {
         name: format!("overruns of {INPUTS} meters"),
         ours: Box::new(move |_| {
             for meter in meters {
-                _ = black_box(library::charge(RATE, meter, black_box(&mut [0; 5])));
+                _ = black_box(library::charge(RATE, meter, None, black_box(&mut [0; 5])));
             }
         }),
         plain: Box::new(move |_| {
             for meter in meters {
-                _ = black_box(charge(RATE, meter, black_box(&mut [0; 5])));
+                _ = black_box(charge(RATE, meter, None, black_box(&mut [0; 5])));
+            }
+        }),
+    }
+}
+
+/// The same with what is excused of each.
+pub fn excused_meters() -> Job {
+    let chance = &mut Chance::new();
+    let meters = made(|| {
+        let meter = inputs::meter(chance);
+        (meter, inputs::excused(chance, &meter.hours))
+    });
+    Job {
+        name: format!("overruns of {INPUTS} meters with excused hours"),
+        ours: Box::new(move |_| {
+            for (meter, excused) in meters {
+                _ = black_box(library::charge(RATE, meter, Some(excused), black_box(&mut [0; 5])));
+            }
+        }),
+        plain: Box::new(move |_| {
+            for (meter, excused) in meters {
+                _ = black_box(charge(RATE, meter, Some(excused), black_box(&mut [0; 5])));
             }
         }),
     }
@@ -123,10 +146,10 @@ pub fn readings() -> Job {
     }
 }
 
-/// Files whose every table has a part of its rows.
+/// Files whose every table has a part of its rows, but for excused hours.
 pub fn listings(rows: usize) -> Job {
     let chance = &mut Chance::new();
-    let counts = inputs::Counts { shippers: rows, points: rows / 2, entries: 8 * rows, meters: rows };
+    let counts = Counts { shippers: rows, points: rows / 2, entries: 8 * rows, meters: rows, excused: 0 };
     let files = made(|| inputs::file(chance, counts));
     let [mut ours, mut plain] = [[0; 2_048]; 2];
     Job {
@@ -144,5 +167,14 @@ pub fn listings(rows: usize) -> Job {
 
 /// The jobs of the table.
 pub fn all() -> Vec<Job> {
-    vec![rounds(64), days(64), full_files(), meters(), readings(), listings(64)]
+    vec![
+        rounds(64),
+        days(64),
+        full_files(UNEXCUSED, "without excused hours"),
+        meters(),
+        readings(),
+        listings(64),
+        full_files(FULL, "with excused hours"),
+        excused_meters(),
+    ]
 }

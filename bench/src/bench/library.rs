@@ -2,7 +2,7 @@
 
 use plain::dayfile::Day;
 use plain::dayshares::Table;
-use plain::overruns::{Meter, Overruns};
+use plain::overruns::{Hours, Meter, Overruns};
 use plain::readings::{DayGas, Readings};
 use plain::{Answer, Refusal};
 
@@ -51,6 +51,20 @@ extern "C" {
         metered: *const u64,
         overruns: *mut u64,
     ) -> u64;
+    fn cormcushion_overruns_excused(
+        rate: u32,
+        p: u32,
+        m: u32,
+        yesterday: *const u64,
+        delivered: *const u64,
+        received: *const u64,
+        schedules: *const u32,
+        metered: *const u64,
+        excused_yesterday: *const u64,
+        excused_delivered: *const u64,
+        excused_received: *const u64,
+        overruns: *mut u64,
+    ) -> u64;
     fn cormcushion_readings(
         kinds: *const u8,
         firsts: *const f64,
@@ -76,12 +90,12 @@ pub fn check_day(file: &[u8]) -> Answer<u64> {
 }
 
 pub fn read_day(file: &[u8], lent: &mut [usize]) -> Answer<Day> {
-    let mut day = [0; 7];
+    let mut day = [0; 8];
     let answer = unsafe { cormcushion_read_day(file.as_ptr(), file.len(), day.as_mut_ptr(), lent.as_mut_ptr(), lent.len()) };
     unpacked(answer)?;
-    let [day, free_flow, compressor, shippers, points, entries, meters] = day;
-    let [shippers, points, entries, meters] = [shippers, points, entries, meters].map(|count| count as usize);
-    Ok(Day { day, free_flow, compressor, shippers, points, entries, meters })
+    let [day, free_flow, compressor, counts @ ..] = day;
+    let [shippers, points, entries, meters, excused] = counts.map(|count| count as usize);
+    Ok(Day { day, free_flow, compressor, shippers, points, entries, meters, excused })
 }
 
 pub fn list_shares(file: &[u8], lent: &mut [u8]) -> Answer<usize> {
@@ -136,17 +150,43 @@ pub fn share_day(
     })
 }
 
-pub fn charge(rate: u32, meter: &Meter, lent: &mut Overruns) -> Answer<u64> {
+pub fn charge(rate: u32, meter: &Meter, excused: Option<&Hours>, lent: &mut Overruns) -> Answer<u64> {
+    match excused {
+        None => charge_all(rate, meter, lent),
+        Some(excused) => charge_less(rate, meter, excused, lent),
+    }
+}
+
+fn charge_all(rate: u32, meter: &Meter, lent: &mut Overruns) -> Answer<u64> {
     unpacked(unsafe {
         cormcushion_overruns(
             rate,
             meter.p,
             meter.m,
-            meter.yesterday.as_ptr(),
-            meter.delivered.as_ptr(),
-            meter.received.as_ptr(),
+            meter.hours.yesterday.as_ptr(),
+            meter.hours.delivered.as_ptr(),
+            meter.hours.received.as_ptr(),
             meter.schedules.as_ptr(),
             meter.metered.as_ptr(),
+            lent.as_mut_ptr(),
+        )
+    })
+}
+
+fn charge_less(rate: u32, meter: &Meter, excused: &Hours, lent: &mut Overruns) -> Answer<u64> {
+    unpacked(unsafe {
+        cormcushion_overruns_excused(
+            rate,
+            meter.p,
+            meter.m,
+            meter.hours.yesterday.as_ptr(),
+            meter.hours.delivered.as_ptr(),
+            meter.hours.received.as_ptr(),
+            meter.schedules.as_ptr(),
+            meter.metered.as_ptr(),
+            excused.yesterday.as_ptr(),
+            excused.delivered.as_ptr(),
+            excused.received.as_ptr(),
             lent.as_mut_ptr(),
         )
     })
