@@ -5,8 +5,8 @@ python3 examples/make.py --check    fails where they are not what is stored
 
 A line of a table file that begins a paragraph says what it is about: the day, the shippers, a point,
 a meter or the gas excused to a shipper; indented lines are its rows. A word that is no figure is for
-the reader, but for a point's side and unit and the name of a row of hours. What follows a # is a
-remark.
+the reader, but for a point's side and unit and the name of an indented row of a meter or of excused
+gas. What follows a # is a remark.
 """
 
 import pathlib

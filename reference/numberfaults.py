@@ -17,7 +17,7 @@ def edges(bound):
 # The ends of each list of a meter's figures, and of excused hours.
 LIST_ENDS = {
     METER: (0, 1, 2, 3, 13, 14, 37, 38, 61, 62, 65, 66, 67),
-    EXCUSED: (0, 1, 59),
+    EXCUSED: (0, 1, 11, 12, 35, 36, 59),
 }
 
 

@@ -18,6 +18,10 @@ from tariff import OVERRUN_RATE
 AMPLE = 4_000
 
 
+# The same day without its tag 9 fields, on which shares and points do not depend.
+UNEXCUSED = {**REPROFILED, EXCUSED: []}
+
+
 def laid(text, room):
     require_room(len(text), room)
     return [len(text)], text.encode()
@@ -68,7 +72,7 @@ def listing_cases(text_of, files, chance):
 def shares_cases(chance):
     rows = (3, 0, 1, 1, 2, 2, 3, 3, 4, 5, 6, 8, 12, 20, 64)
     files = [shared_file(chance, count) for count in rows]
-    others = [file_of(tables) for tables in (SEVERAL, METERED, REPROFILED)]
+    others = [file_of(tables) for tables in (SEVERAL, METERED, REPROFILED, UNEXCUSED)]
     return listing_cases(shares_listing, [*files, *others], chance)
 
 
@@ -141,7 +145,7 @@ def answer_points(room, file):
 
 def points_cases(chance):
     some = [write_day(some_day(chance)) for _ in range(20)]
-    others = [file_of(METERED), file_of(REPROFILED)]
+    others = [file_of(tables) for tables in (METERED, REPROFILED, UNEXCUSED)]
     files = [HOURS, *others, *some, full_file(without=(METER, EXCUSED))]
     return listing_cases(points_listing, files, chance)
 

@@ -8,10 +8,10 @@ use Rattle.units.specs.Bound.{most-rate}
 use Rattle.units.proofs.Checks.{accepts-both, accepts-kept}
 use Rattle.tariff.specs.Charges.{overrun-check}
 use Rattle.overruns.specs.Day.{ShipperDay, day-verdict}
-use Rattle.overruns.specs.Excused.{Excused, excused-day-answer}
+use Rattle.overruns.specs.Excused.{ExcusedHours, excused-day-answer}
 use Rattle.overruns.proofs.Promises.{excused-day-kept}
 
-pub charges-accept : (rate : Rate) (D : ShipperDay) (E : Excused) → rate .0 ≤ most-rate
+pub charges-accept : (rate : Rate) (D : ShipperDay) (E : ExcusedHours) → rate .0 ≤ most-rate
     → overrun-check rate (day-verdict (excused-day-answer D E) .figures .greatest) ≡ Check.Accepted
 unfolding overrun-check
 charges-accept rate D E l =

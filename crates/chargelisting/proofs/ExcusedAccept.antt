@@ -25,8 +25,8 @@ use Rattle.dayvalues.proofs.OneKey.{capped-is}
 use Rattle.dayvalues.proofs.Sounds.{row-accepts, sound-capped, sound-rises}
 use Rattle.daymeters.specs.Hours.{hours-from, megajoules}
 use Rattle.daymeters.specs.Excused.{excused-row}
-use Rattle.chargelisting.specs.MeterDay.{shipper-day, row-excused, shipper-excused}
-use Rattle.chargelisting.proofs.NothingExcused.{none-excused}
+use Rattle.chargelisting.specs.MeterDay.{shipper-day, excused-in-row, shipper-excused}
+use Rattle.chargelisting.proofs.NothingExcused.{past-excuses-nothing}
 use Rattle.chargelisting.proofs.OverrunsAccept.{same-figures, meter-accepts, figures-had, overruns-accept}
 
 module _ (day : Day) (numbers : List ℕ) (S : Sound day numbers) (row : ℕ) (l : row < count (day .counts) Meter) where
@@ -72,16 +72,16 @@ module _ (day : Day) (numbers : List ℕ) (S : Sound day numbers) (row : ℕ) (l
   abbrev D : ShipperDay
   D = shipper-day (day .counts) numbers row
 
-  found-accepts : Dec (found < count (day .counts) Excused) → excused-day-check D (row-excused (day .counts) numbers found) ≡ Check.Accepted
+  found-accepts : Dec (found < count (day .counts) Excused) → excused-day-check D (excused-in-row (day .counts) numbers found) ≡ Check.Accepted
   found-accepts (yes k) =
       let had = row-accepts day numbers S Excused refl found k in
       let metered = meter-accepts day numbers S row l in
-      excused-accepts D (row-excused (day .counts) numbers found) (overruns-accept day numbers S row l)
+      excused-accepts D (excused-in-row (day .counts) numbers found) (overruns-accept day numbers S row l)
       (rw (had, metered) (hours-under k 1 11 (omega arith) (omega arith)))
       (rw (had, metered) (hours-under k 12 24 (omega arith) (omega arith)))
       (rw (had, metered) (hours-under k 36 24 (omega arith) (omega arith)))
   found-accepts (no past) =
-      ap (excused-day-check D) (none-excused (day .counts) numbers found (omega (arith, past)))
+      ap (excused-day-check D) (past-excuses-nothing (day .counts) numbers found (omega (arith, past)))
       ∙ check-nothing D
       ∙ overruns-accept day numbers S row l
 

@@ -20,20 +20,20 @@ use Rattle.dayfile.specs.File.{tables, walked}
 use Rattle.dayfile.specs.Answer.{day-of}
 use Rattle.dayfile.specs.Excused.{NoneExcused}
 use Rattle.dayfile.proofs.Excusing.{as-before}
-use Rattle.chargelisting.specs.MeterDay.{shipper-day, row-excused}
+use Rattle.chargelisting.specs.MeterDay.{shipper-day, excused-in-row}
 use Rattle.chargelisting.specs.ChargesText.{head-line, line-figures, overruns-of, charge-figures, charges-text, charges-listing}
 use Rattle.chargelisting.specs.Former.{former-overruns, former-figures, former-text}
 
-pub none-excused : (counts : Counts) (numbers : List ℕ) (row : ℕ) → count counts Excused ≤ row
-    → row-excused counts numbers row ≡ nothing-excused
-none-excused counts numbers row past = rw (yesterday-past counts numbers row past, hours-past counts numbers row past)
+pub past-excuses-nothing : (counts : Counts) (numbers : List ℕ) (row : ℕ) → count counts Excused ≤ row
+    → excused-in-row counts numbers row ≡ nothing-excused
+past-excuses-nothing counts numbers row past = rw (yesterday-past counts numbers row past, hours-past counts numbers row past)
 
 module _ (counts : Counts) (numbers : List ℕ) (row : ℕ) where
   pub overruns-former : count counts Excused ≤ excused-row counts (col numbers) (meter-figures counts numbers row .shipper)
       → overruns-of counts numbers row ≡ former-overruns counts numbers row
   overruns-former past =
       ap (λ excused. day-verdict (excused-day-answer (shipper-day counts numbers row) excused) .figures)
-      (none-excused counts numbers _ past)
+      (past-excuses-nothing counts numbers _ past)
       ∙ ap (λ over. day-verdict over .figures) (day-nothing (shipper-day counts numbers row))
 
   pub figures-former : (rate : Rate) → count counts Excused ≡ 0

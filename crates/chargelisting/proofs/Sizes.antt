@@ -22,7 +22,7 @@ use Rattle.dayformat.specs.declared.form.Tag.the-variants.{Meter}
 use Rattle.dayformat.specs.Format.{column-in}
 use Rattle.dayformat.specs.Layout.{count}
 use Rattle.overruns.specs.Day.{ShipperDay, day-verdict}
-use Rattle.overruns.specs.Excused.{Excused, excused-day-answer}
+use Rattle.overruns.specs.Excused.{ExcusedHours, excused-day-answer}
 use Rattle.overruns.proofs.Promises.{excused-day-kept}
 use Rattle.dayrows.specs.Private.{Sound}
 use Rattle.dayvalues.proofs.Sounds.{sound-number}
@@ -65,7 +65,7 @@ line-most shipper hourly twelve-hourly receipt delivery greatest cents s h t r d
     (figure-within 10 greatest _ (omega arith) (figure-within 12 cents _ (omega arith) line-none))))))
 
 module _ (rate : Rate) (kept-rate : rate .0 ≤ most-rate) where
-  charge-small : (D : ShipperDay) (E : Excused)
+  charge-small : (D : ShipperDay) (E : ExcusedHours)
       → charge-verdict (overrun-charge rate (day-verdict (excused-day-answer D E) .figures .greatest)) .figures .0 ≤ most-cents
   charge-small D E = rw (charges-accept rate D E kept-rate) (cents-most rate _ kept-rate (excused-day-kept D E refl .chargeable))
 

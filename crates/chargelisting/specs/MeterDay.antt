@@ -4,7 +4,7 @@ use Prim.Native.Nat.{ℕ}
 use Rattle.columns.specs.Column.{col}
 use Rattle.dayformat.specs.declared.layout.Counts.{Counts}
 use Rattle.overruns.specs.Day.{ShipperDay}
-use Rattle.overruns.specs.Excused.{Excused}
+use Rattle.overruns.specs.Excused.{ExcusedHours}
 use Rattle.daymeters.specs.Figures.{meter-figures}
 use Rattle.daymeters.specs.Hours.{meter-yesterday, meter-hours}
 use Rattle.daymeters.specs.Excused.{excused-row, excused-yesterday, excused-hours}
@@ -20,12 +20,12 @@ shipper-day counts numbers row =
       delivery = meter-figures counts numbers row .delivery;
     }
 
--- what a row of the other table excuses
-abbrev pub row-excused : Counts → List ℕ → ℕ → Excused
-row-excused counts numbers row =
+-- what a row of the table of excused gas says
+abbrev pub excused-in-row : Counts → List ℕ → ℕ → ExcusedHours
+excused-in-row counts numbers row =
     record { yesterday = excused-yesterday counts numbers row; hours = excused-hours counts numbers row }
 
 -- C-14: a shipper without a row there has zeros
-abbrev pub shipper-excused : Counts → List ℕ → ℕ → Excused
+abbrev pub shipper-excused : Counts → List ℕ → ℕ → ExcusedHours
 shipper-excused counts numbers row =
-    row-excused counts numbers (excused-row counts (col numbers) (meter-figures counts numbers row .shipper))
+    excused-in-row counts numbers (excused-row counts (col numbers) (meter-figures counts numbers row .shipper))

@@ -28,7 +28,7 @@ use Rattle.readings.proofs.Decided.{readings-placed, metered-decided}
 use Rattle.daytable.specs.Table.{Table}
 use Rattle.daytable.proofs.Accepting.{accepting}
 use Rattle.daytable.proofs.Decided.{table-placed}
-use Rattle.overruns.specs.Excused.{Excused, nothing-excused}
+use Rattle.overruns.specs.Excused.{ExcusedHours, nothing-excused}
 use Rattle.overruns.proofs.Nothing.{check-nothing, overruns-nothing, day-nothing}
 use Rattle.dayformat.specs.Layout.{numbers-in}
 use Rattle.dayshares.specs.Answer.{shares-answer, shares-verdict}
@@ -123,7 +123,7 @@ month-statement-reads numbers L =
     (month-decided numbers (L .answers))
 
 -- ---- a shipper's day: the charge in cents
-pub excused-charge-reads : (rate p m : ℕ) (yesterday delivered received schedules metered : List ℕ) (E : Excused)
+pub excused-charge-reads : (rate p m : ℕ) (yesterday delivered received schedules metered : List ℕ) (E : ExcusedHours)
     {lent after : List ℕ} {packed : ℕ}
     → ExcusedChargePacked rate (shipper-day p m yesterday delivered received schedules metered) E lent packed after
     → Unpacks packed (check-verdict (excused-charge-check rate (shipper-day p m yesterday delivered received schedules metered) E))

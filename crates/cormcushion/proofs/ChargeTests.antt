@@ -22,10 +22,10 @@ use Rattle.units.proofs.Verdicts.{Refuses, refuses-none, refuses-then, refuses-
 use Rattle.tariff.proofs.Charged.{overrun-charged}
 use Rattle.metered.specs.declared.Side.{Side}
 use Rattle.metered.specs.Hours.{bare-hours, delivered, received, hours-check}
-use Rattle.metered.specs.Excused.{both-have, first-beyond, excused-check, excused-hours-check}
+use Rattle.metered.specs.Excused.{both-have, first-above-metered, excused-check, excused-hours-check}
 use Rattle.metered.specs.Singles.{mdqs-check, side-check, sides-check}
 use Rattle.overruns.specs.Day.{ShipperDay, day-check, day-where}
-use Rattle.overruns.specs.Excused.{Excused, excused-day-overruns, excused-day-check, excused-day-answer}
+use Rattle.overruns.specs.Excused.{ExcusedHours, excused-day-overruns, excused-day-check, excused-day-answer}
 use Rattle.overruns.proofs.Promises.{excused-day-kept}
 use Rattle.chargelisting.proofs.OverrunsAccept.{same-figures}
 use Rattle.chargelisting.proofs.Sizes.{most-cents, cents-most}
@@ -68,7 +68,7 @@ rows-third rows d r = no-test also hours (delivered rows) d also hours (received
 
 excused-third : (metered excused : List ℕ) → length metered ≤ 24 → Refuses Third (excused-check metered excused)
 excused-third metered excused few =
-    refuses-clear Third (both-have metered excused) (first-beyond metered excused) 3 (λ inside. (refl, omega (arith, inside, few)))
+    refuses-clear Third (both-have metered excused) (first-above-metered metered excused) 3 (λ inside. (refl, omega (arith, inside, few)))
 
 excused-rows-third : (rows excused : List (List Megajoules)) → length (delivered rows) ≤ 24 → length (received rows) ≤ 24
     → Refuses Third (excused-hours-check rows excused)
@@ -76,7 +76,7 @@ unfolding excused-hours-check
 excused-rows-third rows excused d r =
     excused-third (delivered rows) (delivered excused) d also excused-third (received rows) (received excused) r
 
-module _ (rate p m : ℕ) (yesterday delivered received schedules metered : List ℕ) (E : Excused) where
+module _ (rate p m : ℕ) (yesterday delivered received schedules metered : List ℕ) (E : ExcusedHours) where
   abbrev D : ShipperDay
   D = shipper-day p m yesterday delivered received schedules metered
 
@@ -106,7 +106,7 @@ module _ (rate p m : ℕ) (yesterday delivered received schedules metered : List
   charge-placed refusal e = charge-third refusal e .1
 
 -- ---- what is accepted
-module _ (rate : ℕ) (D : ShipperDay) (E : Excused) where
+module _ (rate : ℕ) (D : ShipperDay) (E : ExcusedHours) where
   rate-kept : rate-check rate ≡ Accepted → rate ≤ most-rate
   unfolding rate-check
   rate-kept e = leb-true _ _ (kept _ _ (both-accepted _ _ e .1))

@@ -15,7 +15,7 @@ use Rattle.metered.specs.declared.Side.{Side}
 use Rattle.overruns.specs.declared.day.Overruns.{Overruns}
 use Rattle.overruns.specs.declared.day.DayOverruns.{DayOverruns}
 use Rattle.overruns.specs.Day.{ShipperDay, day-overruns, day-check, day-answer}
-use Rattle.overruns.specs.Excused.{Excused, excused-day-overruns, excused-day-check, excused-day-answer}
+use Rattle.overruns.specs.Excused.{ExcusedHours, excused-day-overruns, excused-day-check, excused-day-answer}
 use Rattle.daymeters.specs.Hours.{megajoules}
 use Rattle.cormcushion.specs.Packed.{accepted, refused}
 
@@ -100,15 +100,15 @@ abbrev pub charge-cents : ℕ → ShipperDay → ℕ
 charge-cents rate D = cents-for rate (day-overruns D)
 
 -- ---- `cormcushion_overruns_excused`: the same with hours excused
-abbrev pub excused-of : List ℕ → List ℕ → List ℕ → Excused
+abbrev pub excused-of : List ℕ → List ℕ → List ℕ → ExcusedHours
 excused-of yesterday delivered received =
     record { yesterday = hours-of 11 yesterday; hours = hours-of 24 delivered ∷ hours-of 24 received ∷ [] }
 
-abbrev pub ExcusedChargePacked : ℕ → ShipperDay → Excused → List ℕ → ℕ → List ℕ → Type 0
+abbrev pub ExcusedChargePacked : ℕ → ShipperDay → ExcusedHours → List ℕ → ℕ → List ℕ → Type 0
 ExcusedChargePacked rate D E = PricePacked rate (excused-day-answer D E)
 
-abbrev pub excused-charge-check : ℕ → ShipperDay → Excused → Check
+abbrev pub excused-charge-check : ℕ → ShipperDay → ExcusedHours → Check
 excused-charge-check rate D E = rate-check rate then excused-day-check D E
 
-abbrev pub excused-charge-cents : ℕ → ShipperDay → Excused → ℕ
+abbrev pub excused-charge-cents : ℕ → ShipperDay → ExcusedHours → ℕ
 excused-charge-cents rate D E = cents-for rate (excused-day-overruns D E)

@@ -20,7 +20,7 @@ ghost use Rattle.overruns.specs.Excused.{excused-day-answer};
 ghost use Rattle.tariff.specs.Charges.{overrun-charge};
 ghost use Rattle.cormcushion.specs.Meter.{side-of, shipper-day, overrun-figures, rate-of};
 ghost use Rattle.cormcushion.specs.Meter.{of-charge, with-charge, of-overruns, with-overruns, excused-of};
-ghost use Rattle.cormcushion.specs.Meter.{ChargePacked, ExcusedChargePacked};
+ghost use Rattle.cormcushion.specs.Meter.{PricePacked, ChargePacked, ExcusedChargePacked};
 
 // The charge in cents for the greatest of a day's four overruns, with the four and the greatest in `lent`.
 #[no_mangle]
@@ -78,28 +78,19 @@ pub extern "C" fn cormcushion_overruns_excused(
         (excused-of (now («excused_yesterday» .entry)) (now («excused_delivered» .entry)) (now («excused_received» .entry)))
         (now (lent .entry)) r (now (lent .exit)) ⌝ }
 {
-    let found = Check::Accepted.keep(rate <= MOST_RATE.0, 3);
-    match found {
-        Check::Refused(refusal) => refused(refusal),
-        Check::Accepted => {
-            let excused = [
-                hours_of_today(excused_delivered),
-                hours_of_today(excused_received),
-            ];
-            let over = overruns_of(
-                p,
-                m,
-                yesterday,
-                delivered,
-                received,
-                schedules,
-                metered,
-                hours_of_yesterday(excused_yesterday),
-                excused,
-            );
-            price_day(rate, over, lent)
-        }
-    }
+    let over = overruns_of(
+        p,
+        m,
+        yesterday,
+        delivered,
+        received,
+        schedules,
+        metered,
+        excused_yesterday,
+        excused_delivered,
+        excused_received,
+    );
+    price_rated(rate, over, lent)
 }
 
 // A side's single figures: 0 receipt, 1 delivery.
@@ -122,15 +113,20 @@ fn overruns_of(
     received: &[u64; 24],
     schedules: &[u32; 4],
     metered: &[u64; 2],
-    excused_yesterday: [Megajoules; 11],
-    excused_hours: [[Megajoules; 24]; 2],
+    excused_yesterday: &[u64; 11],
+    excused_delivered: &[u64; 24],
+    excused_received: &[u64; 24],
 ) -> DayOverruns
     ensures { λ r. ⌜ r ≡ excused-day-answer
         (shipper-day p m (now (yesterday .entry)) (now (delivered .entry)) (now (received .entry))
         (now (schedules .entry)) (now (metered .entry)))
-        (record { yesterday = «excused_yesterday»; hours = «excused_hours» }) ⌝ }
+        (excused-of (now («excused_yesterday» .entry)) (now («excused_delivered» .entry)) (now («excused_received» .entry))) ⌝ }
 {
     let both = [hours_of_today(delivered), hours_of_today(received)];
+    let excused = [
+        hours_of_today(excused_delivered),
+        hours_of_today(excused_received),
+    ];
     overruns_of_day(
         Gigajoules(p),
         Gigajoules(m),
@@ -138,8 +134,8 @@ fn overruns_of(
         both,
         side_of(schedules, metered, 0),
         side_of(schedules, metered, 1),
-        excused_yesterday,
-        excused_hours,
+        hours_of_yesterday(excused_yesterday),
+        excused,
     )
 }
 
@@ -179,5 +175,16 @@ fn price_day(rate: u32, over: DayOverruns, lent: &mut [u64; 5]) -> u64
     match over {
         DayOverruns::Refused(refusal) => refused(refusal),
         DayOverruns::Over(overruns) => price(rate, overruns, lent),
+    }
+}
+
+// The same where the rate is within its bound: the refusal of a single figure comes before those of hours.
+fn price_rated(rate: u32, over: DayOverruns, lent: &mut [u64; 5]) -> u64
+    ensures { λ r. ⌜ PricePacked rate over (now (lent .entry)) r (now (lent .exit)) ⌝ }
+{
+    let found = Check::Accepted.keep(rate <= MOST_RATE.0, 3);
+    match found {
+        Check::Refused(refusal) => refused(refusal),
+        Check::Accepted => price_day(rate, over, lent),
     }
 }

@@ -10,13 +10,13 @@ use Rattle.columns.specs.Column.{col}
 use Rattle.columns.proofs.Firsts.{first-none}
 use Rattle.units.specs.declared.refusal.Check.{Check}
 use Rattle.units.specs.Refusals.{accepted-or}
+use Rattle.metered.specs.Hours.{no-hours, no-sides}
 use Rattle.dayformat.specs.declared.form.Tag.{Tag}
 use Rattle.dayformat.specs.declared.form.Tag.the-variants.{Excused}
 use Rattle.dayformat.specs.declared.layout.Counts.{Counts}
 use Rattle.dayformat.specs.Layout.{count}
 use Rattle.dayvalues.specs.Row.{number-at, row-check}
 use Rattle.dayvalues.proofs.Accepting.{row-inside}
-use Rattle.daymeters.specs.Hours.{no-hours, no-sides}
 use Rattle.daymeters.specs.Excused.{excused-row, excused-yesterday, excused-hours}
 
 module _ (counts : Counts) (numbers : List ℕ) where

@@ -3,12 +3,13 @@ use mathlib.Core.Path.{_≡_}
 use mathlib.Core.List.{List, [], _∷_, map}
 use Prim.Native.Nat.{ℕ, _+_}
 use lib.Dec.{leb}
-use lib.ListN.{length, replicate}
+use lib.ListN.{length}
 use lib.Seq.{sets}
 use Rattle.columns.specs.Column.{col, listed}
 use Rattle.units.specs.declared.Megajoules.{Megajoules}
 use Rattle.units.specs.declared.refusal.Check.{Check}
 use Rattle.units.specs.Refusals.{_then_, keep, accepted-or}
+use Rattle.metered.specs.Hours.{no-hours, no-sides}
 use Rattle.dayformat.specs.declared.form.Tag.{Tag}
 use Rattle.dayformat.specs.declared.form.Tag.the-variants.{Meter}
 use Rattle.dayformat.specs.declared.layout.Counts.{Counts}
@@ -21,12 +22,6 @@ hours-from counts numbers tag row at many = listed many (λ hour. number-at coun
 
 abbrev pub megajoules : List ℕ → List Megajoules
 megajoules figures = map (λ figure. record { 0 = figure }) figures
-
-abbrev pub no-hours : ℕ → List Megajoules
-no-hours many = replicate many (record { 0 = 0 })
-
-abbrev pub no-sides : List (List Megajoules)
-no-sides = no-hours 24 ∷ no-hours 24 ∷ []
 
 -- yesterday's, of a row whose hours begin at a place; all zero where its tests refuse
 abbrev pub yesterday-of : Counts → List ℕ → Tag → ℕ → ℕ → List Megajoules

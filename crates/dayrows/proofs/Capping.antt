@@ -1,10 +1,10 @@
 -- What caps a row's numbers: where it stands, what is enough, and that a tag without a cap asks nothing.
-use mathlib.Core.Path.{_≡_, refl}
+use mathlib.Core.Path.{_≡_, refl, ap}
 use mathlib.Core.Bool.{Bool, true, false, cond}
 use mathlib.Core.Logic.{_⊎_, inl, inr}
 use Prim.Native.Nat.{ℕ, _+_, _≤_, _<_}
 use native.Mathlib.Omega.{arith}
-use lib.Dec.{leb, eqb}
+use lib.Dec.{leb, ltb, eqb}
 use lib.ListN.{getD}
 use borrow.Author.Tests.{leb-true, ltb-true, eqb-true, le-ltb}
 use Rattle.columns.specs.First.{first, first-from}
@@ -17,7 +17,9 @@ use Rattle.dayformat.specs.Format.{_is-a_, names, cap, first-name, filled-up, f
 use Rattle.dayformat.specs.Layout.{count, row-start}
 use Rattle.dayformat.proofs.Every.{passes-every}
 use Rattle.dayformat.proofs.Filled.{first-filled}
-use Rattle.dayrows.specs.Test.{keyed, lists, none-above, caps, capped}
+use Rattle.dayrows.specs.declared.Source.the-variants.{File}
+use Rattle.dayrows.specs.declared.Test.the-variants.{Bounds}
+use Rattle.dayrows.specs.Test.{bounded, keyed, lists, all-under, caps, capped, passes}
 use Rattle.dayrows.proofs.Fitting.{Fits, fits, fits-is}
 use Rattle.dayrows.proofs.Searches.{witnessed, unmarked}
 
@@ -56,10 +58,10 @@ pub first-of : (tag : Tag) {list : _} → list ≡ filled-up 2 (0 is-a Head) (na
 first-of tag is past = rw is (first-filled tag past)
 
 -- ---- numbers none of which is above the other
-pub none-above-by : (f : ℕ → ℕ) (many one other : ℕ) → ((place : ℕ) → place < many → f (one + place) ≤ f (other + place))
-    → none-above f many one other ≡ true
-unfolding none-above
-none-above-by f many one other all = unmarked _ many (λ place l. le-ltb _ _ (all place l))
+pub all-under-by : (f : ℕ → ℕ) (many one other : ℕ) → ((place : ℕ) → place < many → f (one + place) ≤ f (other + place))
+    → all-under f many one other ≡ true
+unfolding all-under
+all-under-by f many one other all = unmarked _ many (λ place l. le-ltb _ _ (all place l))
 
 module _ (counts : Counts) (f : ℕ → ℕ) (tag : Tag) (at : ℕ) where
   abbrev name : Name
@@ -67,7 +69,7 @@ module _ (counts : Counts) (f : ℕ → ℕ) (tag : Tag) (at : ℕ) where
 
   -- a row that has the key and of whose numbers none is less is enough
   pub capped-by : (row : ℕ) → row < count counts (name .tag) → keyed counts f (name .tag) (at + name .place) row ≡ true
-      → none-above f (cap tag .many) (at + cap tag .place) (row-start counts (name .tag) row + cap tag .under) ≡ true
+      → all-under f (cap tag .many) (at + cap tag .place) (row-start counts (name .tag) row + cap tag .under) ≡ true
       → capped counts f tag at ≡ true
   unfolding capped caps
   capped-by row l same none =
@@ -90,5 +92,18 @@ module _ (counts : Counts) (f : ℕ → ℕ) (tag : Tag) (at : ℕ) where
       by true e =
           let l = ltb-true some (count counts (name .tag)) e in
           capped-by some l (first-marked _ (count counts (name .tag)) l)
-          (none-above-by f (cap tag .many) _ _ (λ place k. absurd (omega (arith, k, none))))
+          (all-under-by f (cap tag .many) _ _ (λ place k. absurd (omega (arith, k, none))))
       by false e = rw e
+
+-- so a row of a tag without a cap is asked for what it was before there were any: not one too many, and each number within its bounds
+pub uncapped-bounds : (counts : Counts) (f : ℕ → ℕ) (tag : Tag) (row : ℕ) → cap tag .many ≡ 0
+    → passes Bounds File counts f tag row
+    ≡ cond (ltb row (form tag .most)) (bounded f tag (row-start counts tag row)) false
+unfolding passes
+uncapped-bounds counts f tag row none =
+    rw (uncapped counts f tag (row-start counts tag row) none)
+    (ap (λ inside. cond (ltb row (form tag .most)) inside false) (by (bounded f tag (row-start counts tag row))))
+  where
+    by : (inside : Bool) → cond inside true false ≡ inside
+    by true = refl
+    by false = refl

@@ -23,7 +23,8 @@ use Rattle.dayrows.specs.declared.Source.{Source}
 use Rattle.dayrows.specs.declared.Source.the-variants.{File, Side}
 use Rattle.dayrows.specs.declared.Test.{Test}
 use Rattle.dayrows.specs.declared.Test.the-variants.{Bounds, Key, Mdq}
-use Rattle.dayrows.specs.Test.{in-bounds, bounded, difference, lists, none-above, caps, capped, in-place, less, rises, names-listed, names-known, some-idle, passes, fault}
+use Rattle.dayrows.specs.Test.{in-bounds, bounded, difference, lists, all-under, caps, capped, of-source}
+use Rattle.dayrows.specs.Test.{less, rises, names-listed, names-known, some-idle, passes, fault}
 use Rattle.dayrows.proofs.Capping.{cap-inside, cap-fits, uncapped}
 use Rattle.dayrows.proofs.Fitting.{Fits, fits, fits-is, names-fit, inside-row, inside-row-is, mdqs-inside}
 
@@ -128,9 +129,9 @@ module _ (f g : ℕ → ℕ) where
       let here = inside-row-is tag pair (first .0) in
       rw (same (pair .mdq) (here .0), same (pair .schedule) (here .1), idle-same tag at same rest (first .1))
 
-  above-same : (many one other : ℕ) → From one many → From other many → none-above f many one other ≡ none-above g many one other
-  unfolding none-above
-  above-same many one other first second =
+  under-same : (many one other : ℕ) → From one many → From other many → all-under f many one other ≡ all-under g many one other
+  unfolding all-under
+  under-same many one other first second =
       ap (leb many)
       (first-same many (λ place. ltb (f (other + place)) (f (one + place))) (λ place. ltb (g (other + place)) (g (one + place)))
       (λ place l. rw (first place l, second place l)))
@@ -149,7 +150,7 @@ module _ (f g : ℕ → ℕ) where
       rw (
         ← start,
         key-same (name .tag) c d start other (at + name .place) l before (name-from tag c d row e same name F),
-        above-same (cap tag .many) (at + cap tag .place) (row-start c (name .tag) other + cap tag .under)
+        under-same (cap tag .many) (at + cap tag .place) (row-start c (name .tag) other + cap tag .under)
             (λ place k. same (at + cap tag .place + place) (omega (arith, k, inside .inside)))
             (λ place k.
             before (row-start c (name .tag) other + cap tag .under + place)
@@ -174,11 +175,11 @@ module _ (f g : ℕ → ℕ) where
                 (caps-same tag c d row e same F),
           )
 
-  in-place-same : (source : Source) (tag : Tag) (c d : Counts) (row : ℕ) → Agree (table-place tag) c d
+  of-source-same : (source : Source) (tag : Tag) (c d : Counts) (row : ℕ) → Agree (table-place tag) c d
       → Before (row-start c tag (suc row))
-      → in-place source c f tag (row-start c tag row) ≡ in-place source d g tag (row-start c tag row)
-  in-place-same File tag c d row e same = capped-same tag c d row e same
-  in-place-same (Side side) tag c d row e same =
+      → of-source source c f tag (row-start c tag row) ≡ of-source source d g tag (row-start c tag row)
+  of-source-same File tag c d row e same = capped-same tag c d row e same
+  of-source-same (Side side) tag c d row e same =
       ap (λ number. eqb number side) (same (row-start c tag row) (omega (arith, small tag .some-columns)))
 
   known-same : (source : Source) (tag : Tag) (c d : Counts) (row : ℕ) → Agree (table-place tag) c d → Before (row-start c tag (suc row))
@@ -195,7 +196,7 @@ passes-same Bounds source tag c d f g row e same =
     rw (
       ← start-same tag c d e,
       bounded-same f g tag at (λ place l. same (at + place) (omega arith)),
-      in-place-same f g source tag c d row e same,
+      of-source-same f g source tag c d row e same,
     )
 passes-same Key source tag c d f g row e same =
     rw (rises-same f g tag c d (start-same tag c d e) row same, ← start-same tag c d e, known-same f g source tag c d row e same)

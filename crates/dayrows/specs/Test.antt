@@ -17,16 +17,7 @@ use Rattle.dayrows.specs.declared.Source.the-variants.{File, Side}
 use Rattle.dayrows.specs.declared.Test.{Test}
 use Rattle.dayrows.specs.declared.Test.the-variants.{Bounds, Key, Mdq}
 
--- ---- 3
--- a number within its bounds
-abbrev pub in-bounds : Column → ℕ → Bool
-in-bounds column number = cond (leb (column .low) number) (leb number (column .high)) false
-
--- every number of the row that begins at a place is within its bounds
-unfoldable pub bounded : (ℕ → ℕ) → Tag → ℕ → Bool
-bounded numbers tag at =
-    leb (form tag .columns) (first (form tag .columns) (λ place. not (in-bounds (column-in (body tag) place) (numbers (at + place)))))
-
+-- ---- keys
 -- the first of so many numbers in which those from one place on differ from those from another
 unfoldable pub difference : (ℕ → ℕ) → ℕ → ℕ → ℕ → ℕ
 difference numbers many one other = first many (λ place. not (eqb (numbers (one + place)) (numbers (other + place))))
@@ -39,16 +30,26 @@ keyed counts numbers tag at row = leb (form tag .key) (difference numbers (form 
 unfoldable pub lists : Counts → (ℕ → ℕ) → Tag → ℕ → Bool
 lists counts numbers tag at = ltb (first (count counts tag) (λ row. keyed counts numbers tag at row)) (count counts tag)
 
--- none of so many numbers from one place on is above that from another on
-unfoldable pub none-above : (ℕ → ℕ) → ℕ → ℕ → ℕ → Bool
-none-above numbers many one other = leb many (first many (λ place. ltb (numbers (other + place)) (numbers (one + place))))
+-- ---- 3
+-- a number within its bounds
+abbrev pub in-bounds : Column → ℕ → Bool
+in-bounds column number = cond (leb (column .low) number) (leb number (column .high)) false
+
+-- every number of the row that begins at a place is within its bounds
+unfoldable pub bounded : (ℕ → ℕ) → Tag → ℕ → Bool
+bounded numbers tag at =
+    leb (form tag .columns) (first (form tag .columns) (λ place. not (in-bounds (column-in (body tag) place) (numbers (at + place)))))
+
+-- of so many numbers each from one place on is at most that from another on
+unfoldable pub all-under : (ℕ → ℕ) → ℕ → ℕ → ℕ → Bool
+all-under numbers many one other = leb many (first many (λ place. ltb (numbers (other + place)) (numbers (one + place))))
 
 -- a row that the row at a place names caps its numbers
 unfoldable pub caps : Counts → (ℕ → ℕ) → Tag → ℕ → ℕ → Bool
 caps counts numbers tag at row =
     let name = first-name tag in
     cond (keyed counts numbers (name .tag) (at + name .place) row)
-    (none-above numbers (cap tag .many) (at + cap tag .place) (row-start counts (name .tag) row + cap tag .under))
+    (all-under numbers (cap tag .many) (at + cap tag .place) (row-start counts (name .tag) row + cap tag .under))
     false
 
 -- some row that it names does, where there is any; where keys rise there is one at most
@@ -59,13 +60,12 @@ capped counts numbers tag at =
     (ltb (first (count counts (name .tag)) (λ row. caps counts numbers tag at row)) (count counts (name .tag)))
     true
 
--- in a list of one side's entries nothing is looked up, and an entry of the other side is beyond its bound
-abbrev pub in-place : Source → Counts → (ℕ → ℕ) → Tag → ℕ → Bool
-in-place File counts numbers tag at = capped counts numbers tag at
-in-place (Side side) counts numbers tag at = eqb (numbers at) side
+-- in a file a row is capped; in a list of one side's entries nothing is looked up, and an entry of the other side is beyond its bound
+abbrev pub of-source : Source → Counts → (ℕ → ℕ) → Tag → ℕ → Bool
+of-source File counts numbers tag at = capped counts numbers tag at
+of-source (Side side) counts numbers tag at = eqb (numbers at) side
 
 -- ---- 5
-
 -- the first number in which the key that stands at one place differs from that at another is the less
 abbrev pub less : (ℕ → ℕ) → ℕ → ℕ → ℕ → Bool
 less numbers key one other =
@@ -105,7 +105,7 @@ starved numbers tag at = some-idle numbers at (mdqs tag)
 unfoldable pub passes : Test → Source → Counts → (ℕ → ℕ) → Tag → ℕ → Bool
 passes Bounds source counts numbers tag row =
     let at = row-start counts tag row in
-    cond (ltb row (form tag .most)) (cond (bounded numbers tag at) (in-place source counts numbers tag at) false) false
+    cond (ltb row (form tag .most)) (cond (bounded numbers tag at) (of-source source counts numbers tag at) false) false
 passes Key source counts numbers tag row =
     cond (rises counts numbers tag row) (names-known source counts numbers tag (row-start counts tag row)) false
 passes Mdq source counts numbers tag row = not (starved numbers tag (row-start counts tag row))

@@ -12,12 +12,12 @@ use dayformat::row_place;
 ghost use mathlib.Core.Path.{_≡_};
 ghost use Prim.Native.Nat.{_^_, _≤_, _<_};
 ghost use Rattle.columns.specs.Column.{col};
-ghost use Rattle.dayrows.specs.Test.{none-above, caps, capped};
+ghost use Rattle.dayrows.specs.Test.{all-under, caps, capped};
 
 // Whether none of so many numbers from one place on is above that from another on.
-fn none_above(numbers: &[usize], many: usize, one: usize, other: usize) -> bool
+fn all_under(numbers: &[usize], many: usize, one: usize, other: usize) -> bool
     requires { ⌜ (many ≤ 68) × (one < 2 ^ 41) × (other < 2 ^ 41) ⌝ }
-    ensures { λ r. ⌜ r ≡ none-above (col (now (numbers .entry))) many one other ⌝ }
+    ensures { λ r. ⌜ r ≡ all-under (col (now (numbers .entry))) many one other ⌝ }
 {
     let mut place = 0;
     while place < many {
@@ -43,7 +43,7 @@ fn caps(counts: Counts, numbers: &[usize], tag: Tag, at: usize, row: u32) -> boo
         return false;
     }
     let cap = cap_of(tag);
-    none_above(numbers, cap.many, at + cap.place, start + cap.under)
+    all_under(numbers, cap.many, at + cap.place, start + cap.under)
 }
 
 // Whether some row that the row at a place names caps its numbers, where there is any.

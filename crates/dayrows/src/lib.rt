@@ -22,7 +22,7 @@ pub use mdqs::is_idle;
 ghost use mathlib.Core.Path.{_≡_};
 ghost use Prim.Native.Nat.{_^_, _<_};
 ghost use Rattle.columns.specs.Column.{col};
-ghost use Rattle.dayrows.specs.Test.{in-place, names-known, passes, fault, first-failing};
+ghost use Rattle.dayrows.specs.Test.{of-source, names-known, passes, fault, first-failing};
 
 // Where rows stand: in a day's file or block, or in a list of the entries of one side.
 pub enum Source {
@@ -62,14 +62,14 @@ fn keeps_bounds(source: Source, counts: Counts, numbers: &[usize], tag: Tag, row
     }
     let at = row_place(counts, tag, row);
     if is_bounded(numbers, tag, at) {
-        return is_in_place(source, counts, numbers, tag, at);
+        return is_of_source(source, counts, numbers, tag, at);
     }
     false
 }
 
-fn is_in_place(source: Source, counts: Counts, numbers: &[usize], tag: Tag, at: usize) -> bool
+fn is_of_source(source: Source, counts: Counts, numbers: &[usize], tag: Tag, at: usize) -> bool
     requires { ⌜ at < 2 ^ 40 ⌝ }
-    ensures { λ r. ⌜ r ≡ in-place source counts (col (now (numbers .entry))) tag at ⌝ }
+    ensures { λ r. ⌜ r ≡ of-source source counts (col (now (numbers .entry))) tag at ⌝ }
 {
     match source {
         Source::File => is_capped(counts, numbers, tag, at),

@@ -18,7 +18,7 @@ use Rattle.dayformat.specs.Layout.{count, row-start}
 use Rattle.dayrows.specs.declared.Source.{Source}
 use Rattle.dayrows.specs.declared.Source.the-variants.{File}
 use Rattle.dayrows.specs.declared.Test.the-variants.{Mdq}
-use Rattle.dayrows.specs.Test.{in-bounds, bounded, none-above, rises, passes}
+use Rattle.dayrows.specs.Test.{in-bounds, bounded, all-under, rises, passes}
 use Rattle.dayrows.specs.Whole.{broken, with-row}
 use Rattle.dayfields.specs.Field.{Taken}
 use Rattle.dayruns.specs.declared.kind.Cursor.{Cursor}
@@ -113,7 +113,7 @@ CapsInside counts tag named at row numbers =
 -- no number of the row at a place is above its cap
 abbrev pub under-cap : Counts → (ℕ → ℕ) → Tag → Tag → ℕ → ℕ → Bool
 under-cap counts numbers tag named at row =
-    none-above numbers (cap tag .many) (at + cap tag .place) (row-start counts named row + cap tag .under)
+    all-under numbers (cap tag .many) (at + cap tag .place) (row-start counts named row + cap tag .under)
 
 -- ---- a field seen to be sound is taken; one that is not may still be taken, as if nothing had been done
 pub record Glanced (source : Source) (counts : Counts) (file : List ℕ) (tag : Tag) (at row : ℕ) (lent after : List ℕ) (sound : Bool)

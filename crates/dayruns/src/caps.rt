@@ -9,13 +9,13 @@ ghost use mathlib.Core.Bool.{true};
 ghost use Prim.Native.Nat.{_+_, _≤_};
 ghost use lib.ListN.{length};
 ghost use Rattle.columns.specs.Column.{col};
-ghost use Rattle.dayrows.specs.Test.{none-above};
+ghost use Rattle.dayrows.specs.Test.{all-under};
 ghost use Rattle.dayruns.specs.Private.{CapsInside, under-cap};
 
 // Whether none of so many numbers from one place on is above that from another on. All are looked at, and so several at once.
-fn none_above(numbers: &[usize], many: usize, one: usize, other: usize) -> bool
+fn are_under(numbers: &[usize], many: usize, one: usize, other: usize) -> bool
     requires { ⌜ (one + many ≤ length (now numbers)) × (other + many ≤ length (now numbers)) ⌝ }
-    ensures { λ r. ⌜ (r ≡ true → none-above (col (now (numbers .entry))) many one other ≡ true) ⌝ }
+    ensures { λ r. ⌜ (r ≡ true → all-under (col (now (numbers .entry))) many one other ≡ true) ⌝ }
 {
     let mut kept = true;
     for place in 0..many {
@@ -43,5 +43,5 @@ pub fn is_under(
         return true;
     }
     let start = row_place(counts, named, 0) + row * form_of(named).columns;
-    none_above(numbers, cap.many, at + cap.place, start + cap.under)
+    are_under(numbers, cap.many, at + cap.place, start + cap.under)
 }

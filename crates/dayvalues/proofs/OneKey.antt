@@ -13,7 +13,7 @@ use Rattle.dayformat.specs.declared.form.Tag.{Tag}
 use Rattle.dayformat.specs.declared.layout.Counts.{Counts}
 use Rattle.dayformat.specs.Format.{cap, first-name, form}
 use Rattle.dayformat.specs.Layout.{count, row-start}
-use Rattle.dayrows.specs.Test.{difference, keyed, lists, none-above, caps, capped, less, rises}
+use Rattle.dayrows.specs.Test.{difference, keyed, lists, all-under, caps, capped, less, rises}
 use Rattle.dayrows.proofs.Searches.{witnessed}
 use Rattle.dayrows.proofs.Within.{both}
 use Rattle.dayvalues.specs.Row.{number-at, row-beginning}
@@ -83,7 +83,7 @@ module _ (counts : Counts) (f : ℕ → ℕ) (tag : Tag) (one : form (first-name
 
     pub capped-is : capped counts f tag at ≡ true
         → (place : ℕ) → place < cap tag .many → f (at + cap tag .place + place) ≤ f (row-start counts named row + cap tag .under + place)
-    unfolding caps none-above
+    unfolding caps all-under
     capped-is c =
         let other = first (count counts named) (λ other. caps counts f tag at other) in
         let k = ltb-true other (count counts named) (some-caps c) in

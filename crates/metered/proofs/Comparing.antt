@@ -68,8 +68,8 @@ accepts-excused-hours hours excused d r =
     accepts-both (accepts-excused (delivered hours) (delivered excused) d) (accepts-excused (received hours) (received excused) r)
 
 -- a list of zeros has zero in every hour
-pub zeros : (n hour : ℕ) → col (replicate n 0) hour ≡ 0
-zeros n hour = by (decLt hour n)
+pub zero-hours : (n hour : ℕ) → col (replicate n 0) hour ≡ 0
+zero-hours n hour = by (decLt hour n)
   where
     by : Dec (hour < n) → col (replicate n 0) hour ≡ 0
     by (yes l) = getD-replicate n hour 0 0 l

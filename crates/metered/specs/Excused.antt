@@ -32,6 +32,6 @@ abbrev pub compared : List ℕ → List ℕ → List ℕ
 compared metered excused = listed (length metered) (λ hour. col metered hour - col excused hour)
 
 -- both sides', delivered first
-abbrev pub compared-hours : List (List Megajoules) → List (List Megajoules) → List (List ℕ)
-compared-hours hours excused =
+abbrev pub compared-rows : List (List Megajoules) → List (List Megajoules) → List (List ℕ)
+compared-rows hours excused =
     compared (delivered hours) (delivered excused) ∷ compared (received hours) (received excused) ∷ []

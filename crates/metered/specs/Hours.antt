@@ -1,7 +1,7 @@
 -- Both sides' 24 hours are one value, two rows of 24, delivered first.
-use mathlib.Core.List.{List, [], _++_, map}
+use mathlib.Core.List.{List, [], _∷_, _++_, map}
 use Prim.Native.Nat.{ℕ}
-use lib.ListN.{getD}
+use lib.ListN.{getD, replicate}
 use Rattle.units.specs.declared.Megajoules.{Megajoules}
 use Rattle.units.specs.declared.refusal.Check.{Check}
 use Rattle.units.specs.Bound.{most-hour}
@@ -27,3 +27,10 @@ hours-check hours =
     Check.Accepted
     then within most-hour (delivered hours)
     then within most-hour (received hours)
+
+-- hours of nothing, and both sides' of today
+abbrev pub no-hours : ℕ → List Megajoules
+no-hours many = replicate many (record { 0 = 0 })
+
+abbrev pub no-sides : List (List Megajoules)
+no-sides = no-hours 24 ∷ no-hours 24 ∷ []

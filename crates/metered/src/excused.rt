@@ -7,7 +7,7 @@ ghost use mathlib.Core.Bool.{true};
 ghost use Prim.Native.Nat.{_-_};
 ghost use Rattle.metered.specs.Hours.{bare-hours};
 ghost use Rattle.metered.specs.Excused.{both-have, first-above-metered, excused-check, excused-hours-check};
-ghost use Rattle.metered.specs.Excused.{compared, compared-hours};
+ghost use Rattle.metered.specs.Excused.{compared, compared-rows};
 
 // Whether no hour has more excused than was metered. All are looked at, and so several at once.
 fn excused_keep(metered: &[u64], excused: &[u64]) -> bool
@@ -90,11 +90,8 @@ fn compared_row(metered: [Megajoules; 24], excused: [Megajoules; 24]) -> [u64; 2
 }
 
 // Both sides'.
-pub fn compared_hours(
-    hours: [[Megajoules; 24]; 2],
-    excused: [[Megajoules; 24]; 2],
-) -> [[u64; 24]; 2]
-    ensures { λ r. ⌜ r ≡ compared-hours hours excused ⌝ }
+pub fn compared_rows(hours: [[Megajoules; 24]; 2], excused: [[Megajoules; 24]; 2]) -> [[u64; 24]; 2]
+    ensures { λ r. ⌜ r ≡ compared-rows hours excused ⌝ }
 {
     let delivered = compared_row(hours[0], excused[0]);
     let received = compared_row(hours[1], excused[1]);

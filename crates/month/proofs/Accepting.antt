@@ -15,8 +15,9 @@ use Rattle.tariff.specs.declared.charges.Change.{Change}
 use Rattle.tariff.specs.Charges.{charge-verdict, variation-charge, request-charge}
 use Rattle.tariff.proofs.Most.{variation-kept, request-kept}
 use Rattle.overruns.specs.declared.day.Overruns.{Overruns}
-use Rattle.overruns.specs.Day.{ShipperDay, day-answer, day-verdict}
-use Rattle.overruns.proofs.Promises.{day-kept}
+use Rattle.overruns.specs.Day.{ShipperDay, day-verdict}
+use Rattle.overruns.specs.Excused.{ExcusedHours, excused-day-answer}
+use Rattle.overruns.proofs.Promises.{excused-day-kept}
 use Rattle.month.specs.declared.figures.Figures.{Figures}
 use Rattle.month.specs.declared.account.AccountDay.{AccountDay}
 use Rattle.month.specs.Figures.{figure, figure-bounds, figures-check}
@@ -74,14 +75,15 @@ figures-given over variation request = record {
   request = request;
 }
 
--- the overruns of any shipper's day, and any variation and request charge, at whatever rates, refused or not
-pub given-accepted : (D : ShipperDay) (variation-rate request-rate : Rate) (receipt delivery : Change) (requests : ℕ)
+-- the overruns of any shipper's day, whatever is excused of it, and any variation and request charge, at whatever rates, refused or not
+pub given-accepted : (D : ShipperDay) (E : ExcusedHours) (variation-rate request-rate : Rate) (receipt delivery : Change) (requests : ℕ)
     → figures-check
-    (figures-given (day-verdict (day-answer D) .figures) (charge-verdict (variation-charge variation-rate receipt delivery) .figures)
+    (figures-given (day-verdict (excused-day-answer D E) .figures)
+    (charge-verdict (variation-charge variation-rate receipt delivery) .figures)
     (charge-verdict (request-charge request-rate requests) .figures))
     ≡ Accepted
-given-accepted D variation-rate request-rate receipt delivery requests =
-    let K = day-kept D refl in
+given-accepted D E variation-rate request-rate receipt delivery requests =
+    let K = excused-day-kept D E refl in
     accepts-figures _
     (record {
       within =

@@ -19,7 +19,7 @@ use Rattle.overruns.specs.Hourly.{hourly-check}
 use Rattle.overruns.specs.Daily.{daily-check}
 use Rattle.overruns.specs.Day.{ShipperDay, Hours, day-check}
 use Rattle.overruns.specs.Excused.{excused-hourly-check, excused-twelve-hourly-check}
-use Rattle.overruns.specs.Excused.{Excused, hours-in, hours-compared, excused-day-check}
+use Rattle.overruns.specs.Excused.{ExcusedHours, hours-in, hours-compared, excused-day-check}
 
 -- both sides' hours compared are within the bound of those metered
 rows-compared : (hours excused : List (List Megajoules)) → Rows-within hours
@@ -72,7 +72,7 @@ day-accepting D e =
     }
 
 -- ---- of a day with hours excused
-module _ (D : ShipperDay) (E : Excused) where
+module _ (D : ShipperDay) (E : ExcusedHours) where
   abbrev pub compared-day : Hours
   compared-day = hours-compared (hours-in (D .yesterday) (D .hours)) (hours-in (E .yesterday) (E .hours))
 

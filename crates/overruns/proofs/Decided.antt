@@ -18,7 +18,7 @@ use Rattle.overruns.specs.Daily.{both-daily, daily-check, daily-where, d
 use Rattle.overruns.specs.Day.{ShipperDay, with-greatest, day-overruns, day-check, day-where, day-answer, day-verdict}
 use Rattle.overruns.specs.Excused.{excused-hourly-check, excused-hourly, excused-hourly-answer}
 use Rattle.overruns.specs.Excused.{excused-twelve-hourly-check, excused-twelve-hourly, excused-twelve-hourly-answer}
-use Rattle.overruns.specs.Excused.{Excused, excused-day-check, excused-day-overruns, excused-day-answer}
+use Rattle.overruns.specs.Excused.{ExcusedHours, excused-day-check, excused-day-overruns, excused-day-answer}
 
 module _ (m : Gigajoules) (hours excused : List (List Megajoules)) where
   pub hourly-numbered : AllNumbered (excused-hourly-check m hours excused)
@@ -64,7 +64,7 @@ module _ (D : ShipperDay) where
       → Decided (day-check D) (day-overruns D) (with-greatest 0 0 0 0) (day-verdict over)
   day-decided = decided day-where day-verdict refl (λ refusal. refl) day-numbered
 
-  module _ (E : Excused) where
+  module _ (E : ExcusedHours) where
     pub excused-day-numbered : AllNumbered (excused-day-check D E)
     unfolding excused-day-check
     excused-day-numbered =

@@ -12,7 +12,7 @@ use Rattle.units.specs.Refusals.{_then_, keep}
 use Rattle.units.proofs.Checks.{then-accepted, accepts-both, accepts-kept}
 use Rattle.metered.specs.Hours.{bare-hours, delivered, received}
 use Rattle.metered.specs.Excused.{excused-hours-check}
-use Rattle.metered.proofs.Comparing.{compared-all, accepts-nothing, zeros}
+use Rattle.metered.proofs.Comparing.{compared-all, accepts-nothing, zero-hours}
 use Rattle.overruns.specs.Hourly.{hourly-check, hourly-answer}
 use Rattle.overruns.specs.TwelveHourly.{twelve-hourly-check, twelve-hourly-answer}
 use Rattle.overruns.specs.Day.{ShipperDay, day-check, day-overruns, day-answer}
@@ -23,8 +23,8 @@ use Rattle.overruns.specs.Excused.{nothing-excused, excused-day-check, e
 hours-accepted : (hours : List (List Megajoules)) → excused-hours-check hours (nothing-excused .hours) ≡ Check.Accepted
 unfolding excused-hours-check
 hours-accepted hours =
-    accepts-both (accepts-nothing (delivered hours) (replicate 24 0) (zeros 24))
-    (accepts-nothing (received hours) (replicate 24 0) (zeros 24))
+    accepts-both (accepts-nothing (delivered hours) (replicate 24 0) (zero-hours 24))
+    (accepts-nothing (received hours) (replicate 24 0) (zero-hours 24))
 
 pub hourly-nothing : (m : Gigajoules) (hours : List (List Megajoules))
     → excused-hourly-answer m hours (nothing-excused .hours) ≡ hourly-answer m hours
@@ -33,8 +33,8 @@ hourly-nothing m hours =
     rw (
       hours-accepted hours,
       then-accepted (hourly-check m hours),
-      compared-all (delivered hours) (replicate 24 0) (zeros 24),
-      compared-all (received hours) (replicate 24 0) (zeros 24),
+      compared-all (delivered hours) (replicate 24 0) (zero-hours 24),
+      compared-all (received hours) (replicate 24 0) (zero-hours 24),
     )
 
 pub twelve-hourly-nothing : (p m : Gigajoules) (hours : List ℕ)
@@ -45,9 +45,9 @@ twelve-hourly-nothing p m hours =
     rw (
       long,
       then-accepted (Check.Accepted then keep (eqb (length hours) 35) 9),
-      accepts-nothing hours (replicate 35 0) (zeros 35),
+      accepts-nothing hours (replicate 35 0) (zero-hours 35),
       then-accepted (twelve-hourly-check p m hours),
-      compared-all hours (replicate 35 0) (zeros 35),
+      compared-all hours (replicate 35 0) (zero-hours 35),
     )
 
 -- of a day: what is found, the figures, and so the answer
@@ -57,7 +57,7 @@ module _ (D : ShipperDay) where
   check-nothing =
       rw (
         hours-accepted (D .hours),
-        accepts-nothing (bare-hours (D .yesterday)) (replicate 11 0) (zeros 11),
+        accepts-nothing (bare-hours (D .yesterday)) (replicate 11 0) (zero-hours 11),
         then-accepted (day-check D),
         then-accepted (day-check D),
       )
@@ -65,9 +65,9 @@ module _ (D : ShipperDay) where
   pub overruns-nothing : excused-day-overruns D nothing-excused ≡ day-overruns D
   overruns-nothing =
       rw (
-        compared-all (bare-hours (D .yesterday) ++ delivered (D .hours)) (replicate 35 0) (zeros 35),
-        compared-all (delivered (D .hours)) (replicate 24 0) (zeros 24),
-        compared-all (received (D .hours)) (replicate 24 0) (zeros 24),
+        compared-all (bare-hours (D .yesterday) ++ delivered (D .hours)) (replicate 35 0) (zero-hours 35),
+        compared-all (delivered (D .hours)) (replicate 24 0) (zero-hours 24),
+        compared-all (received (D .hours)) (replicate 24 0) (zero-hours 24),
       )
 
   pub day-nothing : excused-day-answer D nothing-excused ≡ day-answer D

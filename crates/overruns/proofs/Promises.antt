@@ -1,5 +1,5 @@
 -- The overruns of every answer are within what they can be: where the tests accept by the bounds of what is metered, else they are zero.
-use mathlib.Core.Path.{_≡_, refl, sym, _∙_}
+use mathlib.Core.Path.{_≡_, refl}
 use mathlib.Core.List.{List}
 use Prim.Native.Nat.{ℕ, _≤_}
 use native.Mathlib.Omega.{arith}
@@ -21,14 +21,13 @@ use Rattle.overruns.specs.declared.day.Overruns.{Overruns}
 use Rattle.overruns.specs.declared.day.DayOverruns.{DayOverruns}
 use Rattle.overruns.specs.Answers.{overrun-verdict}
 use Rattle.overruns.specs.Daily.{both-daily, daily-check, daily-answer, daily-verdict}
-use Rattle.overruns.specs.Day.{ShipperDay, with-greatest, day-overruns, day-answer, day-verdict}
+use Rattle.overruns.specs.Day.{ShipperDay, with-greatest, day-overruns, day-verdict}
 use Rattle.overruns.specs.Excused.{excused-hourly-answer, excused-twelve-hourly-answer}
-use Rattle.overruns.specs.Excused.{Excused, nothing-excused, hours-in, excused-day-check, excused-day-overruns, excused-day-answer}
+use Rattle.overruns.specs.Excused.{ExcusedHours, hours-in, excused-day-check, excused-day-overruns, excused-day-answer}
 use Rattle.overruns.specs.Promise.{DailyKept, DayKept}
 use Rattle.overruns.proofs.Accepting.{hourly-accepting, twelve-hourly-accepting, daily-accepting, excused-day-accepting}
 use Rattle.overruns.proofs.Days.{daily-most}
 use Rattle.overruns.proofs.Decided.{hourly-decided, twelve-hourly-decided, daily-decided, excused-day-decided}
-use Rattle.overruns.proofs.Nothing.{day-nothing}
 
 pub hourly-kept : (m : Gigajoules) (hours excused : List (List Megajoules)) {over : Overrun}
     → over ≡ excused-hourly-answer m hours excused → overrun-verdict over .figures .0 ≤ most-hourly
@@ -66,7 +65,7 @@ no-overruns = record {
   chargeable = omega arith;
 }
 
-module _ (D : ShipperDay) (E : Excused) where
+module _ (D : ShipperDay) (E : ExcusedHours) where
   all-kept : excused-day-check D E ≡ Check.Accepted → DayKept (excused-day-overruns D E)
   all-kept accepted =
       let a = excused-day-accepting D E accepted in
@@ -87,12 +86,8 @@ module _ (D : ShipperDay) (E : Excused) where
   pub excused-day-kept : {over : DayOverruns} → over ≡ excused-day-answer D E → DayKept (day-verdict over .figures)
   excused-day-kept is = every-figure DayKept (excused-day-decided D E is) all-kept no-overruns
 
--- with nothing excused these are the answers of before
-pub day-kept : (D : ShipperDay) {over : DayOverruns} → over ≡ day-answer D → DayKept (day-verdict over .figures)
-day-kept D is = excused-day-kept D nothing-excused (is ∙ sym (day-nothing D))
-
 -- ---- gas excused never raises an overrun, and the daily ones count it
-module _ (D : ShipperDay) (E : Excused) where
+module _ (D : ShipperDay) (E : ExcusedHours) where
   abbrev over : Overruns
   over = excused-day-overruns D E
 

@@ -10,20 +10,20 @@ use Rattle.excesses.specs.Hourly.{hourly}
 use Rattle.excesses.specs.TwelveHourly.{twelve-hourly}
 use Rattle.excesses.specs.Greatest.{greatest}
 use Rattle.metered.specs.Hours.{bare-hours, delivered, received}
-use Rattle.metered.specs.Excused.{compared, compared-hours}
+use Rattle.metered.specs.Excused.{compared, compared-rows}
 use Rattle.metered.specs.Private.{Within, Rows-within, Backhaul-within}
 use Rattle.metered.proofs.Comparing.{length-compared}
 use Rattle.overruns.specs.declared.day.Overruns.{Overruns}
 use Rattle.overruns.specs.declared.day.DayOverruns.{DayOverruns}
 use Rattle.overruns.specs.Daily.{daily}
 use Rattle.overruns.specs.Day.{ShipperDay, with-greatest}
-use Rattle.overruns.specs.Excused.{Excused, excused-day-check, excused-day-answer}
+use Rattle.overruns.specs.Excused.{ExcusedHours, excused-day-check, excused-day-answer}
 use Rattle.overruns.proofs.Accepting.{excused-day-accepting}
 
 -- ---- the day is tested, its delivered hours joined to yesterday's, and so those excused
 pub record Tested : Type 0 where
   pub D : ShipperDay
-  pub E : Excused
+  pub E : ExcusedHours
   pub both : List ℕ
   pub joined : both ≡ bare-hours (D .yesterday) ++ delivered (D .hours)
   pub excused-both : List ℕ
@@ -38,7 +38,7 @@ module _ (T : Tested) where
   day-refused e = rw (← checked, e)
 
   module _ (accepted : found ≡ Check.Accepted) {days : List ℕ} {rows : List (List ℕ)}
-      (less-days : days ≡ compared both excused-both) (less-rows : rows ≡ compared-hours (D .hours) (E .hours)) where
+      (less-days : days ≡ compared both excused-both) (less-rows : rows ≡ compared-rows (D .hours) (E .hours)) where
     pub day-fits : length both ≡ 35
         → ((length days ≡ 35) × Within days)
         × ((Within (getD rows 0 []) × Within (getD rows 1 [])) × (Rows-within (D .hours) × Backhaul-within (D .receipt) (D .delivery)))

@@ -14,7 +14,7 @@ use Rattle.metered.specs.Singles.{mdqs-check, side-check, sides-check}
 use Rattle.metered.specs.Excused.{excused-hours-check}
 use Rattle.overruns.specs.declared.day.DayOverruns.{DayOverruns}
 use Rattle.overruns.specs.Day.{ShipperDay, with-greatest, day-check}
-use Rattle.overruns.specs.Excused.{Excused, nothing-excused, excused-day-check, excused-day-answer}
+use Rattle.overruns.specs.Excused.{ExcusedHours, nothing-excused, excused-day-check, excused-day-answer}
 
 abbrev megajoules : ℕ → Megajoules
 megajoules figure = record { 0 = figure }
@@ -38,7 +38,7 @@ abbrev steady : ShipperDay
 steady = day-of 48_000 48_000 0 0 1_152
 
 -- so much excused in hour 1 of today alone
-abbrev first-hour : ℕ → Excused
+abbrev first-hour : ℕ → ExcusedHours
 first-hour figure = record { yesterday = hours 11 0; hours = (megajoules figure ∷ hours 23 0) ∷ hours 24 0 ∷ [] }
 
 pub record Worked : Type 0 where

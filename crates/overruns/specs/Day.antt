@@ -44,7 +44,7 @@ with-greatest hourly twelve-hourly receipt delivery = record {
 }
 
 -- hourly and twelve-hourly overruns count the hours compared with their limits, daily ones the hours metered: two arguments, since
--- the Terms excuse gas from a limit (cl. 5.4, Excused.antt) and never from the day's total; 01 excuses nothing (`all-compared`)
+-- the Terms excuse gas from a limit (cl. 5.4, ExcusedHours.antt) and never from the day's total; 01 excuses nothing (`all-compared`)
 abbrev pub overruns : ℕ → ℕ → Hours → Hours → Side → Side → Overruns
 overruns p m compared metered receipt delivery =
     with-greatest

@@ -1,9 +1,9 @@
 -- C-14; cl. 5.4: gas excused is taken off the metered hour before the hourly and before the twelve-hourly comparison. The daily
 -- overruns go on counting it. The tests are those of before, then what is excused.
-use mathlib.Core.List.{List, [], _∷_, _++_}
+use mathlib.Core.List.{List, _++_}
 use Prim.Native.Nat.{ℕ}
 use lib.Dec.{eqb}
-use lib.ListN.{length, replicate}
+use lib.ListN.{length}
 use Rattle.columns.specs.Column.{col}
 use Rattle.units.specs.declared.Gigajoules.{Gigajoules}
 use Rattle.units.specs.declared.Megajoules.{Megajoules}
@@ -13,7 +13,7 @@ use Rattle.units.specs.Refusals.{_then_, keep, within}
 use Rattle.excesses.specs.Hourly.{hourly}
 use Rattle.excesses.specs.TwelveHourly.{twelve-hourly}
 use Rattle.metered.specs.Singles.{mdqs-check}
-use Rattle.metered.specs.Hours.{bare-hours, delivered, received}
+use Rattle.metered.specs.Hours.{bare-hours, delivered, received, no-hours, no-sides}
 use Rattle.metered.specs.Excused.{excused-check, excused-hours-check, compared}
 use Rattle.overruns.specs.declared.Overrun.{Overrun}
 use Rattle.overruns.specs.declared.day.Overruns.{Overruns}
@@ -53,18 +53,15 @@ excused-twelve-hourly-answer p m hours excused =
 
 -- ---- all four of a shipper's day
 -- its excused hours: yesterday's 11, and both sides' as two rows, delivered first
-pub record Excused : Type 0 where
+pub record ExcusedHours : Type 0 where
   pub yesterday : List Megajoules
   pub hours : List (List Megajoules)
 
-abbrev no-hours : ℕ → List Megajoules
-no-hours many = replicate many (record { 0 = 0 })
-
-abbrev pub nothing-excused : Excused
-nothing-excused = record { yesterday = no-hours 11; hours = no-hours 24 ∷ no-hours 24 ∷ [] }
+abbrev pub nothing-excused : ExcusedHours
+nothing-excused = record { yesterday = no-hours 11; hours = no-sides }
 
 -- yesterday's, delivered, received
-unfoldable pub excused-day-check : ShipperDay → Excused → Check
+unfoldable pub excused-day-check : ShipperDay → ExcusedHours → Check
 excused-day-check D E =
     day-check D
     then excused-check (bare-hours (D .yesterday)) (bare-hours (E .yesterday))
@@ -81,12 +78,12 @@ hours-compared metered excused = record {
   received = compared (metered .received) (excused .received);
 }
 
-abbrev pub excused-day-overruns : ShipperDay → Excused → Overruns
+abbrev pub excused-day-overruns : ShipperDay → ExcusedHours → Overruns
 excused-day-overruns D E =
     overruns (D .p .0) (D .m .0)
     (hours-compared (hours-in (D .yesterday) (D .hours)) (hours-in (E .yesterday) (E .hours)))
     (hours-in (D .yesterday) (D .hours))
     (D .receipt) (D .delivery)
 
-abbrev pub excused-day-answer : ShipperDay → Excused → DayOverruns
+abbrev pub excused-day-answer : ShipperDay → ExcusedHours → DayOverruns
 excused-day-answer D E = day-where (excused-day-check D E) (excused-day-overruns D E)

@@ -4,7 +4,7 @@ use crate::twelve_hourly::compared_days;
 use crate::twelve_hourly::twelve_hourly;
 use metered::Side;
 use metered::both_days;
-use metered::compared_hours;
+use metered::compared_rows;
 use metered::examine_excused;
 use metered::examine_excused_hours;
 use metered::examine_hours;
@@ -108,7 +108,7 @@ pub fn overruns_of_day(
         Check::Refused(refusal) => DayOverruns::Refused(refusal),
         Check::Accepted => {
             let compared = compared_days(&both, &excused_both);
-            let rows = compared_hours(hours, excused_hours);
+            let rows = compared_rows(hours, excused_hours);
             DayOverruns::Over(four_overruns(p, m, &compared, rows, hours, receipt, delivery))
         }
     }

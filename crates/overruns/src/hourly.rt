@@ -1,6 +1,6 @@
 use crate::Overrun;
 use crate::gas::thousandths;
-use metered::compared_hours;
+use metered::compared_rows;
 use metered::examine_excused_hours;
 use metered::examine_hours;
 use metered::excess;
@@ -48,6 +48,6 @@ pub fn hourly_overrun(
         .then(examine_excused_hours(hours, excused));
     match found {
         Check::Refused(refusal) => Overrun::Refused(refusal),
-        Check::Accepted => Overrun::Over(hourly(m, compared_hours(hours, excused))),
+        Check::Accepted => Overrun::Over(hourly(m, compared_rows(hours, excused))),
     }
 }

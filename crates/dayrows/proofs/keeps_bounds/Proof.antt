@@ -20,8 +20,8 @@ row-place-requires c κs = search needs
 is-bounded-requires : tie.Need-is-bounded-requires
 is-bounded-requires c κs = search needs
 
-is-in-place-requires : tie.Need-is-in-place-requires
-is-in-place-requires c κs = search needs
+is-of-source-requires : tie.Need-is-of-source-requires
+is-of-source-requires c κs = search needs
 
 returns-2 : tie.Need-returns-2
 unfolding passes
@@ -30,7 +30,7 @@ returns-2 c =
     let at = kept .before .before in
     let most = ap (λ form. form .most) (at .before .before .before .form-of .ensures) in
     rw (← most, lt-ltb _ _ (at .before .if1 .left), ← at .row-place .ensures .0)
-    (rw (← kept .before .is-bounded .ensures, kept .if2 .taken) (c .is-in-place .ensures))
+    (rw (← kept .before .is-bounded .ensures, kept .if2 .taken) (c .is-of-source .ensures))
 
 returns-3 : tie.Need-returns-3
 unfolding passes
@@ -48,6 +48,6 @@ keeps-bounds-spec =
     returns
     row-place-requires
     is-bounded-requires
-    is-in-place-requires
+    is-of-source-requires
     returns-2
     returns-3)

@@ -70,14 +70,14 @@ returns c =
 cap-of-requires : tie.Need-cap-of-requires
 cap-of-requires c κs = search needs
 
-add-none-above : tie.Need-add-none-above
-add-none-above c =
+add-all-under : tie.Need-add-all-under
+add-all-under c =
     let start = start-of (c .before .before .before) in
     let capped = cap-inside (start .args .tag) in
     omega (arith, ap (λ cap. cap .place) (c .before .cap-of .ensures), capped .inside, small (start .args .tag) .columns, start .pre)
 
-add-none-above-2 : tie.Need-add-none-above-2
-add-none-above-2 c =
+add-all-under-2 : tie.Need-add-all-under-2
+add-all-under-2 c =
     let searched = c .before .before .before .before in
     let start = start-of searched in
     omega (
@@ -88,8 +88,8 @@ add-none-above-2 c =
       searched .before .before .row-place .ensures .1,
     )
 
-none-above-requires : tie.Need-none-above-requires
-none-above-requires c κs =
+all-under-requires : tie.Need-all-under-requires
+all-under-requires c κs =
     let searched = c .before .before .before .before in
     let start = start-of searched in
     let capped = cap-inside (start .args .tag) in
@@ -122,7 +122,7 @@ returns-2 c =
       le-leb _ _ (found .before .if1 .left),
       ← found .cap-of .ensures,
     )
-    (c .none-above .ensures)
+    (c .all-under .ensures)
 
 pub caps-spec : {M : Type 1} → statement M
 caps-spec =
@@ -136,7 +136,7 @@ caps-spec =
     first-difference-requires
     returns
     cap-of-requires
-    add-none-above
-    add-none-above-2
-    none-above-requires
+    add-all-under
+    add-all-under-2
+    all-under-requires
     returns-2)

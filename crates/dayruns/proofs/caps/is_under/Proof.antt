@@ -6,7 +6,7 @@ use native.Mathlib.Omega.{arith}
 use lib.ListN.{length}
 use Rattle.dayformat.specs.Format.{cap}
 use Rattle.dayformat.specs.Layout.{row-start}
-use Rattle.dayrows.proofs.Capping.{cap-inside, none-above-by}
+use Rattle.dayrows.proofs.Capping.{cap-inside, all-under-by}
 use Rattle.dayruns.proofs.Finding.{row-here}
 use borrow.Author.Needs.{needs}
 use Rattle.dayruns.proofs.caps.is_under.Statement.{statement}
@@ -43,7 +43,7 @@ cap-of-requires c κs = search needs
 
 returns : tie.Need-returns
 returns c = λ yes.
-    none-above-by _ _ _ _ (λ place l. absurd (omega (arith, l, ap (λ cap. cap .many) (c .before .before .cap-of .ensures), c .if1 .taken)))
+    all-under-by _ _ _ _ (λ place l. absurd (omega (arith, l, ap (λ cap. cap .many) (c .before .before .cap-of .ensures), c .if1 .taken)))
 
 row-place-requires : tie.Need-row-place-requires
 row-place-requires c κs = search needs
@@ -57,19 +57,19 @@ mul-start c = omega (arith, here (c .before), inside (c .before .before .before)
 add-start : tie.Need-add-start
 add-start c = omega (arith, here (c .before), inside (c .before .before .before))
 
-add-none-above : tie.Need-add-none-above
-add-none-above c =
+add-are-under : tie.Need-add-are-under
+add-are-under c =
     let on = c .before .before .before .before in
     omega (arith, own (start-of on), ap (λ cap. cap .place) (on .before .before .cap-of .ensures))
 
-add-none-above-2 : tie.Need-add-none-above-2
-add-none-above-2 c =
+add-are-under-2 : tie.Need-add-are-under-2
+add-are-under-2 c =
     let formed = c .before .before .before in
     let on = formed .before .before in
     omega (arith, here formed, inside on, ap (λ cap. cap .under) (on .before .before .cap-of .ensures))
 
-none-above-requires : tie.Need-none-above-requires
-none-above-requires c κs =
+are-under-requires : tie.Need-are-under-requires
+are-under-requires c κs =
     let formed = c .before .before .before in
     let on = formed .before .before in
     let cap = on .before .before .cap-of .ensures in
@@ -87,7 +87,7 @@ returns-2 : tie.Need-returns-2
 returns-2 c =
     let formed = c .before .before .before .before in
     let on = formed .before .before in
-    rw (← here formed, ← on .before .before .cap-of .ensures) (c .none-above .ensures)
+    rw (← here formed, ← on .before .before .cap-of .ensures) (c .are-under .ensures)
 
 pub is-under-spec : {M : Type 1} → statement M
 is-under-spec =
@@ -99,7 +99,7 @@ is-under-spec =
     form-of-requires
     mul-start
     add-start
-    add-none-above
-    add-none-above-2
-    none-above-requires
+    add-are-under
+    add-are-under-2
+    are-under-requires
     returns-2)

@@ -8,7 +8,7 @@ use lib.ListN.{length, take, getD}
 use lib.Seq.{length-take-le}
 use Rattle.metered.proofs.Rows.{first-days}
 use Rattle.overruns.specs.Day.{ShipperDay, day-check}
-use Rattle.overruns.specs.Excused.{Excused, excused-day-check}
+use Rattle.overruns.specs.Excused.{ExcusedHours, excused-day-check}
 use Rattle.overruns.proofs.WholeDay.{Tested, day-refused, day-fits, day-over}
 use Rattle.overruns.proofs.day.overruns_of_day.Statement.{statement}
 use Rattle.overruns.proofs.day.overruns_of_day.Tie as tie
@@ -24,7 +24,7 @@ day c =
       delivery = c .args .delivery;
     }
 
-abbrev excused : tie.Start → Excused
+abbrev excused : tie.Start → ExcusedHours
 excused c = record { yesterday = c .args .excused-yesterday; hours = c .args .t8 }
 
 -- where both days' hours, metered and excused, are made
@@ -162,8 +162,8 @@ slice-aggregate-compared-days-2 c = sym (long (listed (c .before .before .before
 compared-days-requires : tie.Need-compared-days-requires
 compared-days-requires c κs = long (listed (c .before .before .before .before))
 
-compared-hours-requires : tie.Need-compared-hours-requires
-compared-hours-requires c κs = search needs
+compared-rows-requires : tie.Need-compared-rows-requires
+compared-rows-requires c κs = search needs
 
 slice-aggregate-four-overruns : tie.Need-slice-aggregate-four-overruns
 slice-aggregate-four-overruns c = search needs
@@ -173,7 +173,7 @@ four-overruns-requires c κs =
     let less = c .before .before in
     let told = less .before .before .before in
     let tests = told .before .before in
-    day-fits (tested tests) (told .enum-told .given .1) (less .compared-days .ensures) (c .before .compared-hours .ensures)
+    day-fits (tested tests) (told .enum-told .given .1) (less .compared-days .ensures) (c .before .compared-rows .ensures)
     (long (listed tests) .0)
 
 returns : tie.Need-returns
@@ -184,7 +184,7 @@ returns-2 c =
     let rows = c .before .before in
     let told = rows .before .before .before .before in
     day-over (tested (told .before .before)) (told .enum-told .given .1) (rows .before .compared-days .ensures)
-    (rows .compared-hours .ensures) (c .four-overruns .ensures)
+    (rows .compared-rows .ensures) (c .four-overruns .ensures)
 
 pub overruns-of-day-spec : {M : Type 1} → statement M
 overruns-of-day-spec =
@@ -215,7 +215,7 @@ overruns-of-day-spec =
     slice-aggregate-compared-days
     slice-aggregate-compared-days-2
     compared-days-requires
-    compared-hours-requires
+    compared-rows-requires
     slice-aggregate-four-overruns
     four-overruns-requires
     returns

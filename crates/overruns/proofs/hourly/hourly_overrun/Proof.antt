@@ -44,13 +44,13 @@ enum-known-found c = search needs
 enum-told : tie.Need-enum-told
 enum-told c = search needs
 
-compared-hours-requires : tie.Need-compared-hours-requires
-compared-hours-requires c κs = search needs
+compared-rows-requires : tie.Need-compared-rows-requires
+compared-rows-requires c κs = search needs
 
 hourly-requires : tie.Need-hourly-requires
 hourly-requires c κs =
     let told = c .before in
-    rw (c .compared-hours .ensures) (hourly-accepting _ _ _ (sym (checked (told .before .before)) ∙ told .enum-told .given .1))
+    rw (c .compared-rows .ensures) (hourly-accepting _ _ _ (sym (checked (told .before .before)) ∙ told .enum-told .given .1))
 
 returns : tie.Need-returns
 returns c = over-refused _ _ (sym (checked (c .before .before .before)) ∙ c .before .found .given .1)
@@ -59,7 +59,7 @@ returns-2 : tie.Need-returns-2
 returns-2 c =
     let told = c .before .before in
     over-accepted _ _ (sym (checked (told .before .before)) ∙ told .enum-told .given .1)
-    (c .hourly .ensures ∙ rw (c .before .compared-hours .ensures))
+    (c .hourly .ensures ∙ rw (c .before .compared-rows .ensures))
 
 pub hourly-overrun-spec : {M : Type 1} → statement M
 hourly-overrun-spec =
@@ -72,7 +72,7 @@ hourly-overrun-spec =
     then-requires-2
     enum-known-found
     enum-told
-    compared-hours-requires
+    compared-rows-requires
     hourly-requires
     returns
     returns-2)

@@ -7,10 +7,10 @@ use borrow.Author.Tests.{le-ltb}
 use lib.Dec.{ltb}
 use Rattle.columns.specs.Column.{col}
 use Rattle.columns.proofs.Firsts.{Searched, searched-none, searched-more, kept-passed}
-use Rattle.dayrows.specs.Test.{none-above}
+use Rattle.dayrows.specs.Test.{all-under}
 use Rattle.dayrows.proofs.Searches.{clear}
-use Rattle.dayruns.proofs.caps.none_above.Statement.{statement}
-use Rattle.dayruns.proofs.caps.none_above.Tie as tie
+use Rattle.dayruns.proofs.caps.are_under.Statement.{statement}
+use Rattle.dayruns.proofs.caps.are_under.Tie as tie
 
 abbrev Inv-loop : tie.InvT-loop
 Inv-loop numbers many one other kept₀ place₀ kept place =
@@ -53,11 +53,11 @@ loop-again c = λ e.
     searched-more _ _ _ (turn .before .loop .inv (kept .1)) (turn .loop-test .taken) (le-ltb _ _ (kept .0 .left))
 
 returns : tie.Need-returns Inv-loop μ-loop
-unfolding none-above
+unfolding all-under
 returns c = λ e. clear _ _ _ (c .before .loop .inv e) (c .loop-test .left)
 
-pub none-above-spec : {M : Type 1} → statement M
-none-above-spec =
+pub are-under-spec : {M : Type 1} → statement M
+are-under-spec =
     tie.close
     (tie.spec
     Inv-loop

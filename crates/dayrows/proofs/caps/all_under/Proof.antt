@@ -6,10 +6,10 @@ use borrow.Author.Needs.{needs}
 use borrow.Author.Tests.{lt-ltb, le-ltb}
 use Rattle.columns.specs.Column.{col}
 use Rattle.columns.proofs.Firsts.{Searched, searched-none, searched-more}
-use Rattle.dayrows.specs.Test.{none-above}
+use Rattle.dayrows.specs.Test.{all-under}
 use Rattle.dayrows.proofs.Searches.{not-clear, clear}
-use Rattle.dayrows.proofs.caps.none_above.Statement.{statement}
-use Rattle.dayrows.proofs.caps.none_above.Tie as tie
+use Rattle.dayrows.proofs.caps.all_under.Statement.{statement}
+use Rattle.dayrows.proofs.caps.all_under.Tie as tie
 
 abbrev Inv-loop : tie.InvT-loop
 Inv-loop numbers many one other place₀ place = Searched (λ i. ltb (col numbers (other + i)) (col numbers (one + i))) many place
@@ -33,7 +33,7 @@ number-of-requires-2 : tie.Need-number-of-requires-2 Inv-loop μ-loop
 number-of-requires-2 c κs = search needs
 
 returns : tie.Need-returns Inv-loop μ-loop
-unfolding none-above
+unfolding all-under
 returns c =
     let second = c .before in
     let first = second .before in
@@ -57,11 +57,11 @@ loop-again c =
     (rw (← first .number-of .ensures, ← second .number-of2 .ensures) (le-ltb _ _ (c .if1 .left)))
 
 returns-2 : tie.Need-returns-2 Inv-loop μ-loop
-unfolding none-above
+unfolding all-under
 returns-2 c = sym (clear _ _ _ (c .before .loop .inv) (c .loop-test .left))
 
-pub none-above-spec : {M : Type 1} → statement M
-none-above-spec =
+pub all-under-spec : {M : Type 1} → statement M
+all-under-spec =
     tie.close
     (tie.spec
     Inv-loop
