@@ -31,14 +31,22 @@ module _ (metered excused : List ℕ) where
   pub length-compared : length (compared metered excused) ≡ length metered
   length-compared = length-listed (length metered) less
 
+  -- past the list there is nothing to take off
+  pub compared-at : (hour : ℕ) → col (compared metered excused) hour ≡ less hour
+  compared-at hour = by (decLt hour (length metered))
+    where
+      by : Dec (hour < length metered) → col (compared metered excused) hour ≡ less hour
+      by (yes l) = col-listed (length metered) less hour l
+      by (no past) =
+          omega (
+            arith,
+            List·getD-eq-default (compared metered excused) 0 {n = hour} (omega (arith, length-compared)),
+            List·getD-eq-default metered 0 {n = hour} (omega arith),
+          )
+
   -- no hour compared is above the hour metered
   pub compared-most : (hour : ℕ) → col (compared metered excused) hour ≤ col metered hour
-  compared-most hour = by (decLt hour (length metered))
-    where
-      by : Dec (hour < length metered) → col (compared metered excused) hour ≤ col metered hour
-      by (yes l) = omega (arith, col-listed (length metered) less hour l)
-      by (no past) =
-          omega (arith, List·getD-eq-default (compared metered excused) 0 {n = hour} (omega (arith, length-compared)))
+  compared-most hour = omega (arith, compared-at hour)
 
   pub compared-within : Within metered → Within (compared metered excused)
   compared-within low hour = omega (arith, low hour, compared-most hour)

@@ -1,5 +1,5 @@
 -- C-14; cl. 5.4: gas that the operator's own reprofiling moved is excused. Hours excused are laid out as the hours metered.
-use mathlib.Core.List.{List, [], _∷_}
+use mathlib.Core.List.{List}
 use Prim.Native.Nat.{ℕ, _-_, min}
 use lib.Dec.{ltb}
 use lib.ListN.{length}
@@ -30,8 +30,3 @@ excused-hours-check hours excused =
 -- hours compared with a limit: metered less excused
 abbrev pub compared : List ℕ → List ℕ → List ℕ
 compared metered excused = listed (length metered) (λ hour. col metered hour - col excused hour)
-
--- both sides', delivered first
-abbrev pub compared-rows : List (List Megajoules) → List (List Megajoules) → List (List ℕ)
-compared-rows hours excused =
-    compared (delivered hours) (delivered excused) ∷ compared (received hours) (received excused) ∷ []

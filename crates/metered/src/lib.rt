@@ -3,7 +3,6 @@ mod excused;
 mod hours;
 mod singles;
 
-pub use excused::compared_rows;
 pub use excused::examine_excused;
 pub use excused::examine_excused_hours;
 pub use excused::excess;

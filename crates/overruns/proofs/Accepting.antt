@@ -12,7 +12,7 @@ use Rattle.units.proofs.Checks.{both-accepted, kept, accepts-both}
 use Rattle.metered.specs.declared.Side.{Side}
 use Rattle.metered.specs.Hours.{bare-hours, delivered, received}
 use Rattle.metered.specs.Excused.{compared}
-use Rattle.metered.specs.Private.{Within, Rows-within, Backhaul-within}
+use Rattle.metered.specs.Private.{Within, Rows-within, Compared-within, Backhaul-within}
 use Rattle.metered.proofs.Accepting.{both-within, hours-within, rows-within, backhaul-within}
 use Rattle.metered.proofs.Comparing.{compared-within, accepts-excused, accepts-excused-hours}
 use Rattle.overruns.specs.Hourly.{hourly-check}
@@ -23,13 +23,13 @@ use Rattle.overruns.specs.Excused.{ExcusedHours, hours-in, hours-compare
 
 -- both sides' hours compared are within the bound of those metered
 rows-compared : (hours excused : List (List Megajoules)) → Rows-within hours
-    → Within (compared (delivered hours) (delivered excused)) × Within (compared (received hours) (received excused))
+    → Compared-within hours excused
 rows-compared hours excused low =
     (compared-within (delivered hours) (delivered excused) (low .0), compared-within (received hours) (received excused) (low .1))
 
 pub hourly-accepting : (m : Gigajoules) (hours excused : List (List Megajoules))
     → excused-hourly-check m hours excused ≡ Check.Accepted
-    → Within (compared (delivered hours) (delivered excused)) × Within (compared (received hours) (received excused))
+    → Compared-within hours excused
 unfolding hourly-check excused-hourly-check
 hourly-accepting m hours excused e = rows-compared hours excused (rows-within hours (both-accepted _ _ (both-accepted _ _ e .0) .1))
 
@@ -78,7 +78,7 @@ module _ (D : ShipperDay) (E : ExcusedHours) where
 
   pub record ExcusedAccepting : Type 0 where
     pub both-days : Within (compared-day .both-days)
-    pub rows : Within (compared-day .delivered) × Within (compared-day .received)
+    pub rows : Compared-within (D .hours) (E .hours)
     pub metered : DayAccepting D
 
   pub excused-day-accepting : excused-day-check D E ≡ Check.Accepted → ExcusedAccepting

@@ -4,7 +4,6 @@ use crate::twelve_hourly::compared_days;
 use crate::twelve_hourly::twelve_hourly;
 use metered::Side;
 use metered::both_days;
-use metered::compared_rows;
 use metered::examine_excused;
 use metered::examine_excused_hours;
 use metered::examine_hours;
@@ -17,16 +16,14 @@ use units::Megajoules;
 use units::Refusal;
 use units::greater;
 ghost use mathlib.Core.Path.{_≡_};
-ghost use mathlib.Core.List.{[]};
-ghost use lib.ListN.{length, getD};
+ghost use lib.ListN.{length};
 ghost use Rattle.columns.specs.Column.{col};
-ghost use Rattle.excesses.specs.Hourly.{hourly};
 ghost use Rattle.excesses.specs.TwelveHourly.{twelve-hourly};
 ghost use Rattle.metered.specs.Hours.{delivered, received};
-ghost use Rattle.metered.specs.Private.{Within, Rows-within, Backhaul-within};
+ghost use Rattle.metered.specs.Private.{Within, Rows-within, Compared-within, Backhaul-within};
 ghost use Rattle.overruns.specs.Daily.{daily};
 ghost use Rattle.overruns.specs.Day.{with-greatest};
-ghost use Rattle.overruns.specs.Excused.{excused-day-answer};
+ghost use Rattle.overruns.specs.Excused.{excused-hourly, excused-day-answer};
 
 // The four overruns of a shipper's day, and the greatest of them.
 pub struct Overruns {
@@ -43,29 +40,29 @@ pub enum DayOverruns {
     Refused(Refusal),
 }
 
-// All four overruns and the greatest: hourly and twelve-hourly from the hours compared, the 35 of both days and both sides' of today,
-// daily from the hours metered.
+// All four overruns and the greatest: twelve-hourly from the 35 hours of both days as they are compared, hourly from today's metered and
+// excused, daily from those metered.
 fn four_overruns(
     p: Gigajoules,
     m: Gigajoules,
     both: &[u64],
-    compared: [[u64; 24]; 2],
-    metered: [[Megajoules; 24]; 2],
+    hours: [[Megajoules; 24]; 2],
+    excused: [[Megajoules; 24]; 2],
     receipt: Side,
     delivery: Side,
 ) -> Overruns
     requires { ⌜ (length (now both) ≡ 35) × Within (now both) ⌝ }
-    requires { ⌜ Within (getD compared 0 []) × Within (getD compared 1 []) ⌝ }
-    requires { ⌜ Rows-within metered × Backhaul-within receipt delivery ⌝ }
+    requires { ⌜ Compared-within hours excused ⌝ }
+    requires { ⌜ Rows-within hours × Backhaul-within receipt delivery ⌝ }
     ensures { λ r. ⌜ r ≡ with-greatest
-        (hourly (m .0) (col (getD compared 0 [])) (col (getD compared 1 [])))
+        (excused-hourly m hours excused .0)
         (twelve-hourly (p .0) (m .0) (col (now (both .entry))))
-        (daily (col (received metered)) receipt)
-        (daily (col (delivered metered)) delivery) ⌝ }
+        (daily (col (received hours)) receipt)
+        (daily (col (delivered hours)) delivery) ⌝ }
 {
-    let over_hours = hourly(m, compared);
+    let over_hours = hourly(m, hours, excused);
     let over_periods = twelve_hourly(p, m, both);
-    let daily = both_daily(metered, receipt, delivery);
+    let daily = both_daily(hours, receipt, delivery);
     let daily_receipt = daily.receipt;
     let daily_delivery = daily.delivery;
     Overruns {
@@ -108,8 +105,7 @@ pub fn overruns_of_day(
         Check::Refused(refusal) => DayOverruns::Refused(refusal),
         Check::Accepted => {
             let compared = compared_days(&both, &excused_both);
-            let rows = compared_rows(hours, excused_hours);
-            DayOverruns::Over(four_overruns(p, m, &compared, rows, hours, receipt, delivery))
+            DayOverruns::Over(four_overruns(p, m, &compared, hours, excused_hours, receipt, delivery))
         }
     }
 }

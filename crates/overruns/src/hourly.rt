@@ -1,6 +1,5 @@
 use crate::Overrun;
 use crate::gas::thousandths;
-use metered::compared_rows;
 use metered::examine_excused_hours;
 use metered::examine_hours;
 use metered::excess;
@@ -10,25 +9,28 @@ use units::MOST_GIGAJOULES;
 use units::Megajoules;
 use units::greater;
 ghost use mathlib.Core.Path.{_≡_};
-ghost use mathlib.Core.List.{[]};
-ghost use lib.ListN.{getD};
-ghost use Rattle.columns.specs.Column.{col};
-ghost use Rattle.metered.specs.Private.{Within};
-ghost use Rattle.excesses.specs.Hourly.{hourly};
-ghost use Rattle.overruns.specs.Excused.{excused-hourly-answer};
+ghost use Rattle.metered.specs.Private.{Compared-within};
+ghost use Rattle.overruns.specs.Excused.{excused-hourly, excused-hourly-answer};
 
-// The sum over the hours of the greater of the two excesses, from both sides' hours compared.
-pub fn hourly(m: Gigajoules, hours: [[u64; 24]; 2]) -> Megajoules
-    requires { ⌜ Within (getD hours 0 []) × Within (getD hours 1 []) ⌝ }
-    ensures { λ r. ⌜ r .0 ≡ hourly (m .0) (col (getD hours 0 [])) (col (getD hours 1 [])) ⌝ }
+// The sum over the hours of the greater of the two excesses, each of what was metered less what is excused.
+pub fn hourly(
+    m: Gigajoules,
+    hours: [[Megajoules; 24]; 2],
+    excused: [[Megajoules; 24]; 2],
+) -> Megajoules
+    requires { ⌜ Compared-within hours excused ⌝ }
+    ensures { λ r. ⌜ r .0 ≡ excused-hourly m hours excused .0 ⌝ }
 {
     let most_delivered = thousandths(50, m);
     let most_received = thousandths(44, m);
     let mut total = 0;
     for hour in 0..24usize {
-        let delivered = excess(Megajoules(hours[0][hour]), most_delivered);
-        let received = excess(Megajoules(hours[1][hour]), most_received);
-        let over = greater(delivered, received);
+        let delivered = excess(hours[0][hour], excused[0][hour]);
+        let received = excess(hours[1][hour], excused[1][hour]);
+        let over = greater(
+            excess(delivered, most_delivered),
+            excess(received, most_received),
+        );
         total += over.0;
     }
     Megajoules(total)
@@ -48,6 +50,6 @@ pub fn hourly_overrun(
         .then(examine_excused_hours(hours, excused));
     match found {
         Check::Refused(refusal) => Overrun::Refused(refusal),
-        Check::Accepted => Overrun::Over(hourly(m, compared_rows(hours, excused))),
+        Check::Accepted => Overrun::Over(hourly(m, hours, excused)),
     }
 }

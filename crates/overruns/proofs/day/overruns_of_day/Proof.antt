@@ -162,29 +162,24 @@ slice-aggregate-compared-days-2 c = sym (long (listed (c .before .before .before
 compared-days-requires : tie.Need-compared-days-requires
 compared-days-requires c κs = long (listed (c .before .before .before .before))
 
-compared-rows-requires : tie.Need-compared-rows-requires
-compared-rows-requires c κs = search needs
-
 slice-aggregate-four-overruns : tie.Need-slice-aggregate-four-overruns
 slice-aggregate-four-overruns c = search needs
 
 four-overruns-requires : tie.Need-four-overruns-requires
 four-overruns-requires c κs =
-    let less = c .before .before in
+    let less = c .before in
     let told = less .before .before .before in
     let tests = told .before .before in
-    day-fits (tested tests) (told .enum-told .given .1) (less .compared-days .ensures) (c .before .compared-rows .ensures)
-    (long (listed tests) .0)
+    day-fits (tested tests) (told .enum-told .given .1) (less .compared-days .ensures) (long (listed tests) .0)
 
 returns : tie.Need-returns
 returns c = day-refused (tested (c .before .before .before)) (c .before .found .given .1)
 
 returns-2 : tie.Need-returns-2
 returns-2 c =
-    let rows = c .before .before in
-    let told = rows .before .before .before .before in
-    day-over (tested (told .before .before)) (told .enum-told .given .1) (rows .before .compared-days .ensures)
-    (rows .compared-rows .ensures) (c .four-overruns .ensures)
+    let less = c .before .before in
+    let told = less .before .before .before in
+    day-over (tested (told .before .before)) (told .enum-told .given .1) (less .compared-days .ensures) (c .four-overruns .ensures)
 
 pub overruns-of-day-spec : {M : Type 1} → statement M
 overruns-of-day-spec =
@@ -215,7 +210,6 @@ overruns-of-day-spec =
     slice-aggregate-compared-days
     slice-aggregate-compared-days-2
     compared-days-requires
-    compared-rows-requires
     slice-aggregate-four-overruns
     four-overruns-requires
     returns

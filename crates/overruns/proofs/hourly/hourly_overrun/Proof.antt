@@ -44,22 +44,17 @@ enum-known-found c = search needs
 enum-told : tie.Need-enum-told
 enum-told c = search needs
 
-compared-rows-requires : tie.Need-compared-rows-requires
-compared-rows-requires c κs = search needs
-
 hourly-requires : tie.Need-hourly-requires
 hourly-requires c κs =
-    let told = c .before in
-    rw (c .compared-rows .ensures) (hourly-accepting _ _ _ (sym (checked (told .before .before)) ∙ told .enum-told .given .1))
+    hourly-accepting _ _ _ (sym (checked (c .before .before)) ∙ c .enum-told .given .1)
 
 returns : tie.Need-returns
 returns c = over-refused _ _ (sym (checked (c .before .before .before)) ∙ c .before .found .given .1)
 
 returns-2 : tie.Need-returns-2
 returns-2 c =
-    let told = c .before .before in
-    over-accepted _ _ (sym (checked (told .before .before)) ∙ told .enum-told .given .1)
-    (c .hourly .ensures ∙ rw (c .before .compared-rows .ensures))
+    let told = c .before in
+    over-accepted _ _ (sym (checked (told .before .before)) ∙ told .enum-told .given .1) (c .hourly .ensures)
 
 pub hourly-overrun-spec : {M : Type 1} → statement M
 hourly-overrun-spec =
@@ -72,7 +67,6 @@ hourly-overrun-spec =
     then-requires-2
     enum-known-found
     enum-told
-    compared-rows-requires
     hourly-requires
     returns
     returns-2)
