@@ -105,7 +105,15 @@ pub fn overruns_of_day(
         Check::Refused(refusal) => DayOverruns::Refused(refusal),
         Check::Accepted => {
             let compared = compared_days(&both, &excused_both);
-            DayOverruns::Over(four_overruns(p, m, &compared, hours, excused_hours, receipt, delivery))
+            DayOverruns::Over(four_overruns(
+                p,
+                m,
+                &compared,
+                hours,
+                excused_hours,
+                receipt,
+                delivery,
+            ))
         }
     }
 }
