@@ -3,8 +3,6 @@ use mathlib.Core.Path.{_≡_}
 use mathlib.Core.List.{List, [], _∷_}
 use Prim.Native.Nat.{ℕ}
 use lib.Dec.{leb}
-use lib.ListN.{replicate}
-use Rattle.columns.specs.Column.{listed}
 use Rattle.units.specs.declared.Gigajoules.{Gigajoules}
 use Rattle.units.specs.declared.Megajoules.{Megajoules}
 use Rattle.units.specs.declared.refusal.Refusal.{Refusal}
@@ -13,12 +11,9 @@ use Rattle.units.specs.Bound.{most-rate}
 use Rattle.units.specs.Refusals.{_then_, keep}
 use Rattle.metered.specs.declared.Side.{Side}
 use Rattle.overruns.specs.declared.day.DayOverruns.{DayOverruns}
-use Rattle.overruns.specs.Day.{ShipperDay}
 use Rattle.overruns.specs.Excused.{excused-day-answer}
-use Rattle.overruns.proofs.Nothing.{day-nothing}
 use Rattle.cormcushion.specs.Packed.{refused}
 use Rattle.cormcushion.specs.Meter.{of-overruns, with-overruns, rate-check, PricePacked}
-use Rattle.cormcushion.specs.Meter.{ChargePacked, excused-of, ExcusedChargePacked}
 
 module _ {rate : ℕ} {over : DayOverruns} {lent : List ℕ} {packed : ℕ} where
   pub refused-rate : {x : Refusal} → (Accepted then keep (leb rate most-rate) 3) ≡ Refused x → packed ≡ refused x
@@ -54,10 +49,3 @@ same-day p m yesterday delivered received receipt delivery excused-yesterday exc
       delivery = delivery i;
     })
     (record { yesterday = excused-yesterday i; hours = excused-delivered i ∷ excused-received i ∷ [] })
-
--- zeros for what is excused give the charge of before
-pub nothing-charged : {rate : ℕ} (D : ShipperDay) {lent after : List ℕ} {packed : ℕ}
-    → ExcusedChargePacked rate D (excused-of (replicate 11 0) (replicate 24 0) (replicate 24 0)) lent packed after
-    → ChargePacked rate D lent packed after
-unfolding listed
-nothing-charged D C = record { answers = rw (day-nothing D) at (C .answers); leaves = rw (day-nothing D) at (C .leaves) }

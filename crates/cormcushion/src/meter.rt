@@ -6,6 +6,7 @@ use crate::packed::refused;
 use metered::Side;
 use overruns::DayOverruns;
 use overruns::Overruns;
+use overruns::metered_overruns;
 use overruns::overruns_of_day;
 use tariff::Charge;
 use tariff::overrun_charge;
@@ -16,6 +17,7 @@ use units::Megajoules;
 use units::Rate;
 ghost use mathlib.Core.Path.{_≡_};
 ghost use Prim.Native.Nat.{_≤_};
+ghost use Rattle.overruns.specs.Day.{day-answer};
 ghost use Rattle.overruns.specs.Excused.{excused-day-answer};
 ghost use Rattle.tariff.specs.Charges.{overrun-charge};
 ghost use Rattle.cormcushion.specs.Meter.{side-of, shipper-day, overrun-figures, rate-of};
@@ -40,20 +42,8 @@ pub extern "C" fn cormcushion_overruns(
         (now (schedules .entry)) (now (metered .entry)))
         (now (lent .entry)) r (now (lent .exit)) ⌝ }
 {
-    cormcushion_overruns_excused(
-        rate,
-        p,
-        m,
-        yesterday,
-        delivered,
-        received,
-        schedules,
-        metered,
-        &[0; 11],
-        &[0; 24],
-        &[0; 24],
-        lent,
-    )
+    let over = metered_of(p, m, yesterday, delivered, received, schedules, metered);
+    price_rated(rate, over, lent)
 }
 
 // The same with hours excused (cl. 5.4): yesterday's, delivered, received.
@@ -105,6 +95,32 @@ fn side_of(schedules: &[u32; 4], metered: &[u64; 2], side: usize) -> Side
     }
 }
 
+// A day's overruns of which nothing is excused.
+fn metered_of(
+    p: u32,
+    m: u32,
+    yesterday: &[u64; 11],
+    delivered: &[u64; 24],
+    received: &[u64; 24],
+    schedules: &[u32; 4],
+    metered: &[u64; 2],
+) -> DayOverruns
+    ensures { λ r. ⌜ r ≡ day-answer
+        (shipper-day p m (now (yesterday .entry)) (now (delivered .entry)) (now (received .entry))
+        (now (schedules .entry)) (now (metered .entry))) ⌝ }
+{
+    let both = [hours_of_today(delivered), hours_of_today(received)];
+    metered_overruns(
+        Gigajoules(p),
+        Gigajoules(m),
+        hours_of_yesterday(yesterday),
+        both,
+        side_of(schedules, metered, 0),
+        side_of(schedules, metered, 1),
+    )
+}
+
+// The same with hours excused.
 fn overruns_of(
     p: u32,
     m: u32,

@@ -19,10 +19,13 @@ ghost use mathlib.Core.Path.{_≡_};
 ghost use lib.ListN.{length};
 ghost use Rattle.columns.specs.Column.{col};
 ghost use Rattle.excesses.specs.TwelveHourly.{twelve-hourly};
-ghost use Rattle.metered.specs.Hours.{delivered, received};
+ghost use Rattle.units.specs.Bound.{most-hour};
+ghost use Rattle.units.specs.Refusals.{_then_, within};
+ghost use Rattle.metered.specs.Singles.{mdqs-check, sides-check};
+ghost use Rattle.metered.specs.Hours.{delivered, received, hours-check};
 ghost use Rattle.metered.specs.Private.{Within, Rows-within, Compared-within, Backhaul-within};
 ghost use Rattle.overruns.specs.Daily.{daily};
-ghost use Rattle.overruns.specs.Day.{with-greatest};
+ghost use Rattle.overruns.specs.Day.{with-greatest, day-answer};
 ghost use Rattle.overruns.specs.Excused.{excused-hourly, excused-day-answer};
 
 // The four overruns of a shipper's day, and the greatest of them.
@@ -77,8 +80,49 @@ fn four_overruns(
     }
 }
 
-// The overruns of a shipper's day, from a tag 5 field's figures: P, M, yesterday's 11 hours, today's two rows, both sides' single ones;
-// and from what is excused of the hours (cl. 5.4).
+// The tests of a shipper's day but for what is excused, from yesterday's hours as a list.
+fn examine_day(
+    p: Gigajoules,
+    m: Gigajoules,
+    yesterday: &[u64],
+    hours: [[Megajoules; 24]; 2],
+    receipt: Side,
+    delivery: Side,
+) -> Check
+    ensures { λ r. ⌜ r ≡ (mdqs-check p m then sides-check receipt delivery then within most-hour (now (yesterday .entry))
+        then hours-check hours) ⌝ }
+{
+    examine_mdqs(p, m)
+        .then(examine_sides(receipt, delivery))
+        .megajoules_within(yesterday, MOST_HOUR)
+        .then(examine_hours(hours))
+}
+
+// The overruns of a shipper's day of which nothing is excused, from a tag 5 field's figures: P, M, yesterday's 11 hours, today's two
+// rows, both sides' single ones.
+pub fn metered_overruns(
+    p: Gigajoules,
+    m: Gigajoules,
+    yesterday: [Megajoules; 11],
+    hours: [[Megajoules; 24]; 2],
+    receipt: Side,
+    delivery: Side,
+) -> DayOverruns
+    ensures { λ r. ⌜ r ≡ day-answer
+        (record { p = p; m = m; yesterday = yesterday; hours = hours; receipt = receipt; delivery = delivery }) ⌝ }
+{
+    let both = both_days(yesterday, hours[0]);
+    let found = examine_day(p, m, &both[..11], hours, receipt, delivery);
+    match found {
+        Check::Refused(refusal) => DayOverruns::Refused(refusal),
+        Check::Accepted => {
+            let nothing = [[Megajoules(0); 24]; 2];
+            DayOverruns::Over(four_overruns(p, m, &both, hours, nothing, receipt, delivery))
+        }
+    }
+}
+
+// The same with what is excused of the hours (cl. 5.4).
 pub fn overruns_of_day(
     p: Gigajoules,
     m: Gigajoules,
@@ -95,10 +139,7 @@ pub fn overruns_of_day(
 {
     let both = both_days(yesterday, hours[0]);
     let excused_both = both_days(excused_yesterday, excused_hours[0]);
-    let found = examine_mdqs(p, m)
-        .then(examine_sides(receipt, delivery))
-        .megajoules_within(&both[..11], MOST_HOUR)
-        .then(examine_hours(hours))
+    let found = examine_day(p, m, &both[..11], hours, receipt, delivery)
         .then(examine_excused(&both[..11], &excused_both[..11]))
         .then(examine_excused_hours(hours, excused_hours));
     match found {

@@ -10,6 +10,7 @@ pub use daily::DailyOverruns;
 pub use daily::daily_overruns;
 pub use day::DayOverruns;
 pub use day::Overruns;
+pub use day::metered_overruns;
 pub use day::overruns_of_day;
 pub use hourly::hourly_overrun;
 pub use twelve_hourly::twelve_hourly_overrun;

@@ -1,14 +1,17 @@
--- The charge is that of the same day with nothing excused.
-use Rattle.cormcushion.proofs.Charging.{nothing-charged}
+-- The day's overruns are the routine's, and they are priced.
 use borrow.Author.Needs.{needs}
 use Rattle.cormcushion.proofs.meter.cormcushion_overruns.Statement.{statement}
 use Rattle.cormcushion.proofs.meter.cormcushion_overruns.Tie as tie
 
-cormcushion-overruns-excused-requires : tie.Need-cormcushion-overruns-excused-requires
-cormcushion-overruns-excused-requires c κs = search needs
+metered-of-requires : tie.Need-metered-of-requires
+metered-of-requires c κs = search needs
+
+price-rated-requires : tie.Need-price-rated-requires
+price-rated-requires c κs = search needs
 
 returns : tie.Need-returns
-returns c = nothing-charged _ (c .cormcushion-overruns-excused .ensures)
+returns c = rw (c .before .before .metered-of .ensures) at (c .price-rated .ensures)
 
 pub cormcushion-overruns-spec : {M : Type 1} → statement M
-cormcushion-overruns-spec = tie.close (tie.spec cormcushion-overruns-excused-requires returns)
+cormcushion-overruns-spec =
+    tie.close (tie.spec metered-of-requires price-rated-requires returns)

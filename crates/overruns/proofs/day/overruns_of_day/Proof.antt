@@ -28,39 +28,32 @@ abbrev excused : tie.Start → ExcusedHours
 excused c = record { yesterday = c .args .excused-yesterday; hours = c .args .t8 }
 
 -- where both days' hours, metered and excused, are made
-abbrev listed : tie.After-then4 → tie.After-both-days2
-listed c = c .before .before .before .before .before .before .before .before .before .before .before .before .before
+abbrev listed : tie.After-then2 → tie.After-both-days2
+listed c = c .before .before .before .before .before .before .before .before
 
 -- what is found is the chain of tests as it is defined
-checked : (c : tie.After-then4)
-    → let made = c .before .before .before .before .before .before .before .before .before .before .before .before .before in
-    let start = made .before .before .before .before in c .then4 .result ≡ excused-day-check (day start) (excused start)
+checked : (c : tie.After-then2)
+    → let made = c .before .before .before .before .before .before .before .before in
+    let start = made .before .before .before .before in c .then2 .result ≡ excused-day-check (day start) (excused start)
 unfolding day-check excused-day-check
 checked c =
     let tested = c .before .before in
-    let hours = tested .before .before .before .before in
-    let within = hours .before .before in
-    let sides = within .before .before .before in
-    let made = sides .before .before in
+    let found = tested .before .before .before .before in
+    let made = found .before .before in
     let start = made .before .before .before .before in
     rw (
-      c .then4 .ensures,
+      c .then2 .ensures,
       c .before .examine-excused-hours .ensures,
-      tested .then3 .ensures,
+      tested .then .ensures,
       tested .before .examine-excused .ensures,
-      hours .then2 .ensures,
-      hours .before .examine-hours .ensures,
-      within .megajoules-within .ensures,
-      within .before .before .then .ensures,
-      sides .examine-sides .ensures,
-      sides .before .examine-mdqs .ensures,
+      found .examine-day .ensures,
       made .both-days2 .ensures,
       made .before .before .both-days .ensures,
       first-days (start .args .yesterday) (getD (start .args .t4) 0 []) (start .good .1 .1 .0 .1 .0 .1),
       first-days (start .args .excused-yesterday) (getD (start .args .t8) 0 []) (start .good .1 .1 .1 .1 .1 .1 .0 .1 .0 .1),
     )
 
-abbrev tested : tie.After-then4 → Tested
+abbrev tested : tie.After-then2 → Tested
 tested c =
     let made = listed c in
     let start = made .before .before .before .before in
@@ -71,7 +64,7 @@ tested c =
       joined = made .before .before .both-days .ensures;
       excused-both = made .both-days2 .result;
       excused-joined = made .both-days2 .ensures;
-      found = c .then4 .result;
+      found = c .then2 .result;
       checked = checked c;
     }
 
@@ -94,58 +87,41 @@ array-copy-out-both-days-2 c = search needs
 both-days-requires-2 : tie.Need-both-days-requires-2
 both-days-requires-2 c κs = search needs
 
-examine-mdqs-requires : tie.Need-examine-mdqs-requires
-examine-mdqs-requires c κs = search needs
-
-examine-sides-requires : tie.Need-examine-sides-requires
-examine-sides-requires c κs = search needs
-
-then-requires : tie.Need-then-requires
-then-requires c κs = search needs
-
 array-share-prefix-both : tie.Need-array-share-prefix-both
 array-share-prefix-both c = search needs
 
-slice-aggregate-megajoules-within : tie.Need-slice-aggregate-megajoules-within
-slice-aggregate-megajoules-within c =
-    let made = c .before .before .before .before in first-eleven (made .before .before .both-days .result) (long made .0)
+slice-aggregate-examine-day : tie.Need-slice-aggregate-examine-day
+slice-aggregate-examine-day c =
+    let made = c .before in first-eleven (made .before .before .both-days .result) (long made .0)
 
-megajoules-within-requires : tie.Need-megajoules-within-requires
-megajoules-within-requires c κs = search needs
-
-examine-hours-requires : tie.Need-examine-hours-requires
-examine-hours-requires c κs = search needs
-
-then-requires-2 : tie.Need-then-requires-2
-then-requires-2 c κs = search needs
+examine-day-requires : tie.Need-examine-day-requires
+examine-day-requires c κs = search needs
 
 array-share-prefix-both-2 : tie.Need-array-share-prefix-both-2
 array-share-prefix-both-2 c = search needs
 
 slice-aggregate-examine-excused : tie.Need-slice-aggregate-examine-excused
 slice-aggregate-examine-excused c =
-    let made = c .before .before .before .before .before .before .before .before in
-    first-eleven (made .before .before .both-days .result) (long made .0)
+    let made = c .before .before .before in first-eleven (made .before .before .both-days .result) (long made .0)
 
 array-share-prefix-excused-both : tie.Need-array-share-prefix-excused-both
 array-share-prefix-excused-both c = search needs
 
 slice-aggregate-examine-excused-2 : tie.Need-slice-aggregate-examine-excused-2
 slice-aggregate-examine-excused-2 c =
-    let made = c .before .before .before .before .before .before .before .before .before in
-    first-eleven (made .both-days2 .result) (long made .1)
+    let made = c .before .before .before .before in first-eleven (made .both-days2 .result) (long made .1)
 
 examine-excused-requires : tie.Need-examine-excused-requires
 examine-excused-requires c κs = search needs
 
-then-requires-3 : tie.Need-then-requires-3
-then-requires-3 c κs = search needs
+then-requires : tie.Need-then-requires
+then-requires c κs = search needs
 
 examine-excused-hours-requires : tie.Need-examine-excused-hours-requires
 examine-excused-hours-requires c κs = search needs
 
-then-requires-4 : tie.Need-then-requires-4
-then-requires-4 c κs = search needs
+then-requires-2 : tie.Need-then-requires-2
+then-requires-2 c κs = search needs
 
 enum-known-found : tie.Need-enum-known-found
 enum-known-found c = search needs
@@ -189,22 +165,17 @@ overruns-of-day-spec =
     both-days-requires
     array-copy-out-both-days-2
     both-days-requires-2
-    examine-mdqs-requires
-    examine-sides-requires
-    then-requires
     array-share-prefix-both
-    slice-aggregate-megajoules-within
-    megajoules-within-requires
-    examine-hours-requires
-    then-requires-2
+    slice-aggregate-examine-day
+    examine-day-requires
     array-share-prefix-both-2
     slice-aggregate-examine-excused
     array-share-prefix-excused-both
     slice-aggregate-examine-excused-2
     examine-excused-requires
-    then-requires-3
+    then-requires
     examine-excused-hours-requires
-    then-requires-4
+    then-requires-2
     enum-known-found
     enum-told
     slice-aggregate-compared-days
