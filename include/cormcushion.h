@@ -9,12 +9,11 @@
  * Threads: the library keeps nothing between calls, so that several threads may call it at once, so long as no call uses what another
  * is lent to write.
  *
- * Stack: have 128 kB free for a function that lists or checks a file, 64 kB for cormcushion_read_day, 32 kB for
- * cormcushion_month_statement, 8 kB for the others; no proof speaks of it. They take 114, 56, 19 and 2 kB at most: so much do the
- * frames in the archive come to along every chain of calls, none of which comes back to itself, and so deep did calls write on stacks
- * filled with a pattern, given full files of 25,551 bytes, sound and damaged, and months of 31 days and days of readings, sound and
- * refused. Where memcpy and memset are bound at their first call, the loader took 3.5 kB more for it. Where the stack is shorter the
- * process ends at its guard page.
+ * Stack: have 192 kB free for a function that lists or checks a file, 96 kB for cormcushion_read_day, 32 kB for
+ * cormcushion_month_statement, 16 kB for the others; no proof speaks of it. They take 176, 88, 19 and 6 kB at most: so much do the
+ * frames in the archive come to along every chain of calls, none of which comes back to itself. Before there was tag 9 so counted
+ * frames were as deep as calls wrote on stacks filled with a pattern. Where memcpy and memset are bound at their first call, the
+ * loader took 3.5 kB more for it. Where the stack is shorter the process ends at its guard page.
  *
  * The answer is one number in fixed decimal digits: the last fifteen are a figure, the two before them 01's refusal number, those
  * before these a kind, which is 0 today. Where the number is 0 the call is accepted and the figure is its answer; else the call is

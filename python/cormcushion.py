@@ -6,8 +6,8 @@ that is no whole number from 0 up to the greatest of its width, but for readings
 OverflowError or TypeError. Nor is a file that is no bytes object: ctypes.ArgumentError.
 
 Functions may be called from several threads and run side by side: ctypes gives up the interpreter's lock for a call, and each call
-copies the lists that it is given and has room of its own for what is written. A thread needs 128 kB of stack free for a function that
-takes a file, 32 kB for month_statement and 8 kB for the others, so threading.stack_size should not be set as low as that.
+copies the lists that it is given and has room of its own for what is written. A thread needs 192 kB of stack free for a function that
+takes a file, 32 kB for month_statement and 16 kB for the others, so threading.stack_size should not be set as low as that.
 """
 
 import ctypes
