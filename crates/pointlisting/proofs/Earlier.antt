@@ -3,7 +3,7 @@ use mathlib.Core.Path.{_≡_, refl, ap, ap₂, _∙_}
 use mathlib.Core.List.{_++_}
 use Prim.Native.Nat.{ℕ, suc, _+_, _<_}
 use native.Mathlib.Omega.{arith}
-use Rattle.columns.specs.Column.{col, joined}
+use Rattle.columns.specs.Column.{joined}
 use Rattle.columns.proofs.Joined.{joined-same}
 use Rattle.dayformat.specs.declared.day.Day.{Day}
 use Rattle.dayformat.specs.declared.form.Tag.the-variants.{Shipper, Point, Entry, Excused}
@@ -18,13 +18,9 @@ use Rattle.dayvalues.specs.Column.{place-of}
 use Rattle.dayvalues.proofs.Earlier.{Alike, count-same, number-same}
 use Rattle.pointhours.specs.HourText.{hour-lines, firm-mdq}
 use Rattle.pointhours.proofs.Earlier.{firm-mdq-same}
-use Rattle.dayfile.specs.File.{tables}
-use Rattle.dayfile.specs.Answer.{day-of}
-use Rattle.dayfile.specs.Excused.{Regardless}
-use Rattle.roundtrip.proofs.SameFront.{same-front}
 use Rattle.entrylists.specs.PointRows.{many-rows, entry-number}
 use Rattle.entrylists.proofs.EntryRows.{rows-inside, many-rows-same, entry-number-same}
-use Rattle.pointlisting.specs.PointsText.{day-line, point-line, entry-lines, point-lines, points-text, points-listing}
+use Rattle.pointlisting.specs.PointsText.{day-line, point-line, entry-lines, point-lines, points-text}
 use Rattle.pointlisting.proofs.PartRead.{hour-same}
 
 module _ {many : ℕ} {c d : Counts} {f g : ℕ → ℕ} (A : Alike many c d f g) (early : table-place Entry < many) where
@@ -84,10 +80,3 @@ points-text-same day other f g head agree same =
     ap₂ (λ line lines. line ++ lines) (ap (λ head. day-line (head .day)) head)
     (joined-same (count (day .counts) Point) _ _ (point-same A (omega arith))
     ∙ ap (λ rows. joined rows (point-lines (other .counts) g)) (count-same A Point refl (omega arith)))
-
--- so files that differ in tag 9 fields alone have the same listing
-pub points-regardless : Regardless points-listing
-points-regardless file other are other-are accepted other-accepted same =
-    let S = same-front (table-place Excused) (omega arith) file other are other-are accepted other-accepted same in
-    points-text-same (day-of file) (day-of other) (col (tables file .numbers)) (col (tables other .numbers))
-    (S .head) (S .agree) (S .numbers)

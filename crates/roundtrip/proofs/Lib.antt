@@ -5,3 +5,4 @@ pub mod HeadAgain
 pub mod OnRoutines
 pub mod RoundTrips
 pub mod SameFront
+pub mod ListedAlike

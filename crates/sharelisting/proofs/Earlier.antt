@@ -3,7 +3,6 @@ use mathlib.Core.Path.{_≡_, refl, ap, ap₂, _∙_}
 use mathlib.Core.List.{List, _++_}
 use Prim.Native.Nat.{ℕ, _<_}
 use native.Mathlib.Omega.{arith}
-use Rattle.columns.specs.Column.{col}
 use Rattle.columns.proofs.Joined.{joined-same}
 use Rattle.daytable.specs.Table.{Table}
 use Rattle.dayformat.specs.declared.day.Day.{Day}
@@ -17,11 +16,7 @@ use Rattle.dayvalues.specs.Shippers.{shipper-of}
 use Rattle.dayvalues.proofs.Earlier.{Alike, count-same, number-same}
 use Rattle.numbershares.specs.DayTable.{table-of}
 use Rattle.numbershares.proofs.Earlier.{table-same}
-use Rattle.dayfile.specs.File.{tables}
-use Rattle.dayfile.specs.Answer.{day-of}
-use Rattle.dayfile.specs.Excused.{Regardless}
-use Rattle.roundtrip.proofs.SameFront.{same-front}
-use Rattle.sharelisting.specs.SharesText.{head-line, shipper-line, shipper-lines, shares-text, shares-listing}
+use Rattle.sharelisting.specs.SharesText.{head-line, shipper-line, shipper-lines, shares-text}
 
 -- the lines of a table's shares
 abbrev table-lines : ℕ → (ℕ → ℕ) → Table → List ℕ
@@ -47,10 +42,3 @@ shares-text-same day other f g head agree same =
     ap₂ (λ line lines. line ++ lines)
     (ap₂ (λ head T. head-line (head .day) (firm-total T) (left T)) head table)
     (ap (table-lines (count (day .counts) Shipper) (shipper-of (day .counts) f)) table ∙ lines-same A early (table-of other g))
-
--- so files that differ in tag 9 fields alone have the same listing
-pub shares-regardless : Regardless shares-listing
-shares-regardless file other are other-are accepted other-accepted same =
-    let S = same-front (table-place Excused) (omega arith) file other are other-are accepted other-accepted same in
-    shares-text-same (day-of file) (day-of other) (col (tables file .numbers)) (col (tables other .numbers))
-    (S .head) (S .agree) (S .numbers)
