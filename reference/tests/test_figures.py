@@ -129,20 +129,8 @@ class Overruns(unittest.TestCase):
         self.assertEqual(4_830_000, twelve_hourly_overrun(1_000, 2_000, [100_000] * 35))
         self.assertEqual(5_184, twelve_hourly_overrun(0, 0, [*range(1, 36)]))
 
-    def test_a_day_over_its_twelve_hours(self):
-        overruns = day_overruns(
-            1_000,
-            1_000,
-            [48_000] * 11,
-            Sides([48_000] * 24, [0] * 24),
-            Schedules(0, 1_152, 0, 0),
-            BackhaulMetered(0, 0),
-        )
-        self.assertEqual((0, 288_000, 0, 0, 288_000), overruns)
-        self.assertEqual(103_392, overrun_charge(OVERRUN_RATE, overruns.greatest))
-
-    def steady(self, yesterday, delivered):
-        """The day of 288,000 MJ with so much excused of its delivered hours."""
+    def steady(self, *excused):
+        """The day of 288,000 MJ, with what is excused of its hours."""
         return day_overruns(
             1_000,
             1_000,
@@ -150,14 +138,19 @@ class Overruns(unittest.TestCase):
             Sides([48_000] * 24, [0] * 24),
             Schedules(0, 1_152, 0, 0),
             BackhaulMetered(0, 0),
-            Excused(yesterday, delivered, [0] * 24),
+            *excused,
         )
 
+    def test_a_day_over_its_twelve_hours(self):
+        overruns = self.steady()
+        self.assertEqual((0, 288_000, 0, 0, 288_000), overruns)
+        self.assertEqual(103_392, overrun_charge(OVERRUN_RATE, overruns.greatest))
+
     def test_excused_gas_is_not_compared(self):
-        self.assertEqual((0, 0, 0, 0, 0), self.steady([1_000] * 11, [1_000] * 24))
-        self.assertEqual((0, 276_000, 0, 0, 276_000), self.steady([0] * 11, [1_000, *[0] * 23]))
-        self.assertEqual((0, 144_000, 0, 0, 144_000), self.steady([0] * 11, [48_000, *[0] * 23]))
-        self.assertEqual((0, 287_000, 0, 0, 287_000), self.steady([1_000, *[0] * 10], [0] * 24))
+        self.assertEqual((0, 0, 0, 0, 0), self.steady(Excused([1_000] * 11, [1_000] * 24, [0] * 24)))
+        self.assertEqual((0, 276_000, 0, 0, 276_000), self.steady(Excused([0] * 11, [1_000, *[0] * 23], [0] * 24)))
+        self.assertEqual((0, 144_000, 0, 0, 144_000), self.steady(Excused([0] * 11, [48_000, *[0] * 23], [0] * 24)))
+        self.assertEqual((0, 287_000, 0, 0, 287_000), self.steady(Excused([1_000, *[0] * 10], [0] * 24, [0] * 24)))
         excused = put([0] * 35, 11, 1_000)
         self.assertEqual(276_000, twelve_hourly_overrun(1_000, 1_000, [48_000] * 35, excused))
 

@@ -72,7 +72,8 @@ module _ (day : Day) (numbers : List ℕ) (S : Sound day numbers) (row : ℕ) (l
   abbrev D : ShipperDay
   D = shipper-day (day .counts) numbers row
 
-  found-accepts : Dec (found < count (day .counts) Excused) → excused-day-check D (excused-in-row (day .counts) numbers found) ≡ Check.Accepted
+  found-accepts : Dec (found < count (day .counts) Excused) →
+      excused-day-check D (excused-in-row (day .counts) numbers found) ≡ Check.Accepted
   found-accepts (yes k) =
       let had = row-accepts day numbers S Excused refl found k in
       let metered = meter-accepts day numbers S row l in
