@@ -12,7 +12,7 @@ use dayrows::number_of;
 use units::{Check, Gigajoules, Refusal};
 
 // The head and the counts of a day, or why its file is refused.
-#[derive(Drop)]
+#[derive(Clone, Copy)]
 pub enum Reading {
     Refused(Refusal),
     Read(Day),

@@ -5,7 +5,7 @@ ghost use Rattle.dayformat.specs.Format.{none, ◌of◌, body, column_in, filled
 use crate::form::Tag;
 
 // A number of a field: how many bytes spell it, and its bounds.
-#[derive(Drop)]
+#[derive(Clone, Copy)]
 pub struct Column {
     pub width: usize,
     pub low: usize,
@@ -13,7 +13,7 @@ pub struct Column {
 }
 
 // So many numbers of one kind.
-#[derive(Drop)]
+#[derive(Clone, Copy)]
 pub struct Several {
     pub many: usize,
     pub kind: Column,

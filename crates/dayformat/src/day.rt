@@ -2,14 +2,14 @@
 use crate::layout::Counts;
 use units::Gigajoules;
 
-#[derive(Drop)]
+#[derive(Clone, Copy)]
 pub struct Head {
     pub day: u32,
     pub free_flow: Gigajoules,
     pub compressor: Gigajoules,
 }
 
-#[derive(Drop)]
+#[derive(Clone, Copy)]
 pub struct Day {
     pub head: Head,
     pub counts: Counts,

@@ -5,7 +5,7 @@ ghost use Rattle.dayformat.specs.Format.{form};
 use crate::body::{BACKHAUL, GIGAJOULES, HOUR, METER_HOURS, NAME, NUMBER, SIDE};
 
 // The tags 1 to 5, and 9, in this order.
-#[derive(Drop)]
+#[derive(Clone, Copy)]
 pub enum Tag {
     Head,
     Shipper,
@@ -16,7 +16,7 @@ pub enum Tag {
 }
 
 // A tag's byte; how many numbers its body holds, in how many bytes; how many fields there may be; how many first numbers are the key.
-#[derive(Drop)]
+#[derive(Clone, Copy)]
 pub struct Form {
     pub byte: u8,
     pub columns: usize,

@@ -29,7 +29,7 @@ pub const MOST_BYTES: usize = HEAD_FIELD
     + MOST_EXCUSED as usize * EXCUSED_FIELD;
 
 // The fields of tags 2 to 5 and 9.
-#[derive(Drop)]
+#[derive(Clone, Copy)]
 pub struct Counts {
     pub shippers: u32,
     pub points: u32,

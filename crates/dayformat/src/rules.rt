@@ -6,21 +6,21 @@ use crate::body::METER_HOURS;
 use crate::form::Tag;
 
 // The place of a key in a row, and the tag of the rows that list it.
-#[derive(Drop)]
+#[derive(Clone, Copy)]
 pub struct Name {
     pub place: usize,
     pub tag: Tag,
 }
 
 // The place of an MDQ in a row, and that of its schedule.
-#[derive(Drop)]
+#[derive(Clone, Copy)]
 pub struct Pair {
     pub mdq: usize,
     pub schedule: usize,
 }
 
 // So many numbers of a row from a place on, capped by as many from another place on of the row that its first name names.
-#[derive(Drop)]
+#[derive(Clone, Copy)]
 pub struct Cap {
     pub many: usize,
     pub place: usize,

@@ -13,7 +13,7 @@ use dayvalues::number_at;
 use metered::Side;
 use units::{Check, Gigajoules, Refusal};
 
-#[derive(Drop)]
+#[derive(Clone, Copy)]
 pub struct MeterFigures {
     pub shipper: u16,
     pub p: Gigajoules,
@@ -23,7 +23,7 @@ pub struct MeterFigures {
 }
 
 // A row's single figures, or why they are refused.
-#[derive(Drop)]
+#[derive(Clone, Copy)]
 pub enum MeterRow {
     Meter(MeterFigures),
     Refused(Refusal),

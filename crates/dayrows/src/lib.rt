@@ -20,14 +20,14 @@ pub use field::breaks;
 pub use mdqs::is_idle;
 
 // Where rows stand: in a day's file or block, or in a list of the entries of one side.
-#[derive(Drop)]
+#[derive(Clone, Copy)]
 pub enum Source {
     File,
     Side(usize),
 }
 
 // The tests that refuse by 3, 5 and 4.
-#[derive(Drop)]
+#[derive(Clone, Copy)]
 pub enum Test {
     Bounds,
     Key,

@@ -10,7 +10,7 @@ use dayformat::{Counts, ENTRY_BYTE, Tag, count_of, form_of, names_of};
 use dayrows::Source;
 
 // Whether a field is seen to be sound, and the rows that its names were found in.
-#[derive(Drop)]
+#[derive(Clone, Copy)]
 pub struct Glance {
     pub sound: bool,
     pub near: Near,

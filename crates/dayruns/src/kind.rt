@@ -7,7 +7,7 @@ use bigendian::number_at;
 use dayformat::Column;
 
 // How far a body is read: the next number's byte and its place among the numbers, and whether those before keep their bounds.
-#[derive(Drop)]
+#[derive(Clone, Copy)]
 pub struct Cursor {
     pub byte: usize,
     pub to: usize,

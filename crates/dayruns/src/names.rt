@@ -8,7 +8,7 @@ ghost use Rattle.dayruns.specs.Private.{Same, KeysInside};
 use dayformat::{Counts, POINT_COLUMNS, SHIPPER_COLUMNS, Tag, count_of, form_of, row_place};
 
 // The rows in which a row's first and second name were found: an entry's first is its point, its second its shipper.
-#[derive(Drop)]
+#[derive(Clone, Copy)]
 pub struct Near {
     pub first: usize,
     pub second: usize,

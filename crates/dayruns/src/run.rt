@@ -11,7 +11,7 @@ use dayformat::{Counts, HEADER, Tag, form_of, row_place};
 use dayrows::Source;
 
 // How many sound fields there are, where they end, and the number of the fault there, 0 for none.
-#[derive(Drop)]
+#[derive(Clone, Copy)]
 pub struct Run {
     pub rows: u32,
     pub place: usize,
@@ -19,7 +19,7 @@ pub struct Run {
 }
 
 // A field taken: the number that refuses it, 0 for none, and the rows that its names were found in.
-#[derive(Drop)]
+#[derive(Clone, Copy)]
 struct Step {
     fault: u8,
     near: Near,

@@ -6,7 +6,7 @@ use dayformat::{Counts, HEADER};
 use units::{Check, Refusal};
 
 // The number of the first fault, 0 for none so far; where it is, or how far is read; and the rows before.
-#[derive(Drop)]
+#[derive(Clone, Copy)]
 pub struct Walk {
     pub fault: u8,
     pub place: usize,

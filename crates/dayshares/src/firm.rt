@@ -8,7 +8,7 @@ use crate::round::{hold, hold_next};
 use units::MOST_ROWS;
 
 // The levels of the three firm rounds, and what the rows are given together.
-#[derive(Drop)]
+#[derive(Clone, Copy)]
 pub struct FirmGiven {
     pub one: u64,
     pub two: u64,

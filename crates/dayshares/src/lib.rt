@@ -12,7 +12,7 @@ ghost use Rattle.dayshares.specs.Answer.{SharesAnswered};
 use units::{Check, Gigajoules, Refusal};
 
 // The levels of a day's five rounds; 0 for a round not held.
-#[derive(Drop)]
+#[derive(Clone, Copy)]
 pub struct Levels {
     pub one: u64,
     pub two: u64,
@@ -22,7 +22,7 @@ pub struct Levels {
 }
 
 // A day's levels, what each class is given together, and LEFT.
-#[derive(Drop)]
+#[derive(Clone, Copy)]
 pub struct Shares {
     pub levels: Levels,
     pub firm: Gigajoules,
@@ -31,7 +31,7 @@ pub struct Shares {
     pub left: Gigajoules,
 }
 
-#[derive(Drop)]
+#[derive(Clone, Copy)]
 pub enum Day {
     Shared(Shares),
     Refused(Refusal),

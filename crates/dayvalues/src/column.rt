@@ -9,7 +9,7 @@ use dayformat::{Counts, Tag, numbers_of};
 use units::{Check, Refusal};
 
 // In tag 2's order.
-#[derive(Drop)]
+#[derive(Clone, Copy)]
 pub enum ShipperColumn {
     FirmMdq,
     AuctionMdq,
@@ -19,7 +19,7 @@ pub enum ShipperColumn {
 }
 
 // How many rows a column has, or why it is refused.
-#[derive(Drop)]
+#[derive(Clone, Copy)]
 pub enum ColumnRows {
     Rows(usize),
     Refused(Refusal),

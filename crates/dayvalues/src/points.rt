@@ -7,7 +7,7 @@ use dayformat::{Counts, Tag};
 use units::{Check, Megajoules, Refusal};
 
 // A point of a side (0 receipt, 1 delivery), and its hourly capacity.
-#[derive(Drop)]
+#[derive(Clone, Copy)]
 pub struct Point {
     pub side: u8,
     pub point: u16,
@@ -15,7 +15,7 @@ pub struct Point {
 }
 
 // A row's point, or why it is refused.
-#[derive(Drop)]
+#[derive(Clone, Copy)]
 pub enum PointRow {
     Point(Point),
     Refused(Refusal),

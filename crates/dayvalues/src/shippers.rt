@@ -7,7 +7,7 @@ use dayformat::{Counts, Tag};
 use units::{Check, Refusal};
 
 // A row's shipper, or why it is refused.
-#[derive(Drop)]
+#[derive(Clone, Copy)]
 pub enum ShipperRow {
     Shipper(u16),
     Refused(Refusal),

@@ -10,7 +10,7 @@ use dayformat::{Day, file_size};
 use units::{Check, Refusal};
 
 // How many bytes the day's file has, or why the day is refused.
-#[derive(Drop)]
+#[derive(Clone, Copy)]
 pub enum Written {
     Refused(Refusal),
     Bytes(usize),

@@ -14,7 +14,7 @@ const ZERO: u8 = 48;
 const NINE: u8 = 57;
 
 // The number, or why the word is refused.
-#[derive(Drop)]
+#[derive(Clone, Copy)]
 pub enum Decimal {
     Number(u32),
     Refused(Refusal),

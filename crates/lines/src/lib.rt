@@ -16,7 +16,7 @@ const SPACE: u8 = 32;
 const MOST_FIGURES: usize = 64;
 
 // How many bytes a listing's text has, or why the listing is refused.
-#[derive(Drop)]
+#[derive(Clone, Copy)]
 pub enum Listing {
     Refused(Refusal),
     Text(usize),

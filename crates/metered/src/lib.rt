@@ -9,7 +9,7 @@ pub use singles::{examine_mdqs, examine_sides};
 use units::{Gigajoules, Megajoules};
 
 // A side's single figures of a day: its schedules, forward and backhaul, and the backhaul metered.
-#[derive(Drop)]
+#[derive(Clone, Copy)]
 pub struct Side {
     pub forward: Gigajoules,
     pub backhaul: Gigajoules,

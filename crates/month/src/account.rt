@@ -15,42 +15,42 @@ use units::{Check, Refusal};
 pub const MOST_DAYS: usize = 31;
 
 // One of a shipper's days.
-#[derive(Drop)]
+#[derive(Clone, Copy)]
 pub struct AccountDay {
     pub number: u32,
     pub figures: Figures,
 }
 
 // The days are the first so many; what stands past them is no part of the account.
-#[derive(Drop)]
+#[derive(Clone, Copy)]
 pub struct Account {
     pub days: [AccountDay; MOST_DAYS],
     pub count: usize,
 }
 
 // The account after a day was handed in, and what was found of the day.
-#[derive(Drop)]
+#[derive(Clone, Copy)]
 pub struct Taken {
     pub account: Account,
     pub found: Check,
 }
 
 // The seven sums, or why there are none.
-#[derive(Drop)]
+#[derive(Clone, Copy)]
 pub enum Total {
     Refused(Refusal),
     Sums(Figures),
 }
 
 // The account, and its total.
-#[derive(Drop)]
+#[derive(Clone, Copy)]
 pub struct Totalled {
     pub account: Account,
     pub total: Total,
 }
 
 // The account after it was closed, and how many bytes its statement has.
-#[derive(Drop)]
+#[derive(Clone, Copy)]
 pub struct Closed {
     pub account: Account,
     pub listing: Listing,

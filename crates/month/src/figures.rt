@@ -10,7 +10,7 @@ use units::{
 };
 
 // The four overruns in 01's order, the chargeable quantity, the charges for variation and for requests.
-#[derive(Drop)]
+#[derive(Clone, Copy)]
 pub struct Figures {
     pub hourly: Megajoules,
     pub twelve_hourly: Megajoules,

@@ -10,14 +10,14 @@ use metered::{Side, bare_hours, examine_hours, examine_sides, excess};
 use units::{Check, Megajoules, Refusal, in_megajoules};
 
 // The daily overruns of both sides.
-#[derive(Drop)]
+#[derive(Clone, Copy)]
 pub struct Daily {
     pub receipt: Megajoules,
     pub delivery: Megajoules,
 }
 
 // Both, or why the call is refused.
-#[derive(Drop)]
+#[derive(Clone, Copy)]
 pub enum DailyOverruns {
     Over(Daily),
     Refused(Refusal),

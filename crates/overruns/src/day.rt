@@ -20,7 +20,7 @@ use metered::{
 use units::{Check, Gigajoules, MOST_HOUR, Megajoules, Refusal, greater};
 
 // The four overruns of a shipper's day, and the greatest of them.
-#[derive(Drop)]
+#[derive(Clone, Copy)]
 pub struct Overruns {
     pub hourly: Megajoules,
     pub twelve_hourly: Megajoules,
@@ -30,7 +30,7 @@ pub struct Overruns {
 }
 
 // All of them, or why the call is refused.
-#[derive(Drop)]
+#[derive(Clone, Copy)]
 pub enum DayOverruns {
     Over(Overruns),
     Refused(Refusal),

@@ -12,7 +12,7 @@ pub use twelve_hourly::twelve_hourly_overrun;
 use units::{Megajoules, Refusal};
 
 // How much is over, or why the call is refused.
-#[derive(Drop)]
+#[derive(Clone, Copy)]
 pub enum Overrun {
     Over(Megajoules),
     Refused(Refusal),

@@ -10,7 +10,7 @@ ghost use Rattle.pointshares.specs.Answer.{HourAnswered};
 use units::{Check, Megajoules, Refusal};
 
 // What the shippers are given together, or why nothing is shared.
-#[derive(Drop)]
+#[derive(Clone, Copy)]
 pub enum Hour {
     Shared(Megajoules),
     Refused(Refusal),

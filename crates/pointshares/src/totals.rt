@@ -2,7 +2,7 @@ ghost use Rattle.std.specs.Prelude.{◌≡◌};
 ghost use Rattle.pointshares.specs.Private.{Rows, totals};
 
 // TRE and TMDQ.
-#[derive(Drop)]
+#[derive(Clone, Copy)]
 pub struct Totals {
     pub entitlement: u64,
     pub mdq: u32,

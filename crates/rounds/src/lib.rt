@@ -13,13 +13,13 @@ ghost use Rattle.rounds.specs.Answer.{RoundAnswered};
 use units::{Check, Gigajoules, Refusal};
 
 // A round's level, and what its rows are given together.
-#[derive(Drop)]
+#[derive(Clone, Copy)]
 pub struct Given {
     pub level: u64,
     pub total: Gigajoules,
 }
 
-#[derive(Drop)]
+#[derive(Clone, Copy)]
 pub enum Round {
     Shared(Given),
     Refused(Refusal),

@@ -6,7 +6,7 @@ ghost use Rattle.rounds.specs.Private.{Rows};
 use crate::share::share_at;
 
 // One pass over the rows at a level: what they are given together, and the weights of the rows that stay short.
-#[derive(Drop)]
+#[derive(Clone, Copy)]
 pub struct Pass {
     pub total: u32,
     pub short: u32,

@@ -6,7 +6,7 @@ ghost use Rattle.rounds.specs.Private.{Rows};
 use crate::share::share_at_top;
 
 // The rows together: all that the top can give them, and their weights.
-#[derive(Drop)]
+#[derive(Clone, Copy)]
 pub struct Whole {
     pub most: u32,
     pub weight: u32,

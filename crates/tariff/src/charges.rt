@@ -8,14 +8,14 @@ use units::{
 };
 
 // What is to be paid, or why that can't be said.
-#[derive(Drop)]
+#[derive(Clone, Copy)]
 pub enum Charge {
     Charged(Cents),
     Refused(Refusal),
 }
 
 // A schedule before and after it is varied.
-#[derive(Drop)]
+#[derive(Clone, Copy)]
 pub struct Change {
     pub old: Gigajoules,
     pub new: Gigajoules,

@@ -5,7 +5,7 @@ use crate::rounding::half_up;
 use units::{Check, MOST_CPI, MOST_RATE, Rate, Refusal};
 
 // A rate after escalation, or why there is none.
-#[derive(Drop)]
+#[derive(Clone, Copy)]
 pub enum Escalation {
     Escalated(Rate),
     Refused(Refusal),

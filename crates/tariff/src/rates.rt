@@ -11,7 +11,7 @@ pub const VARIATION_RATE: Rate = Rate(4_075);
 // for a request
 pub const REQUEST_RATE: Rate = Rate(36_271_000);
 
-#[derive(Drop)]
+#[derive(Clone, Copy)]
 pub struct Rates {
     pub overrun: Rate,
     pub variation: Rate,

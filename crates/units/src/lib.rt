@@ -14,23 +14,23 @@ pub use bounds::{
 pub use refusal::{Check, Refusal};
 
 // Whole gigajoules: MDQs, schedules and capacities of a day.
-#[derive(Drop)]
+#[derive(Clone, Copy)]
 pub struct Gigajoules(pub u32);
 
 // Whole megajoules: hours, capacities of an hour, overruns, system use gas.
-#[derive(Drop)]
+#[derive(Clone, Copy)]
 pub struct Megajoules(pub u64);
 
 // Whole cubic metres: volumes.
-#[derive(Drop)]
+#[derive(Clone, Copy)]
 pub struct CubicMetres(pub u64);
 
 // Money.
-#[derive(Drop)]
+#[derive(Clone, Copy)]
 pub struct Cents(pub u64);
 
 // Hundred-thousandths of a dollar.
-#[derive(Drop)]
+#[derive(Clone, Copy)]
 pub struct Rate(pub u32);
 
 // The one crossing between units: 1 GJ = 1,000 MJ.

@@ -5,7 +5,7 @@ use crate::above::{first_gigajoules_above, first_megajoules_above};
 use crate::{Gigajoules, Megajoules};
 
 // Why a call is refused: 01's number, and the place.
-#[derive(Drop)]
+#[derive(Clone, Copy)]
 pub struct Refusal {
     pub number: u8,
     pub place: usize,
@@ -38,7 +38,7 @@ impl Refusal {
 }
 
 // What the tests of an input find. They are chained in 01's order, and the first that refuses wins.
-#[derive(Drop)]
+#[derive(Clone, Copy)]
 pub enum Check {
     Accepted,
     Refused(Refusal),

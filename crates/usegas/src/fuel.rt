@@ -4,11 +4,11 @@ ghost use Rattle.usegas.specs.Fuel.{bounded_size, fuel_check, positive, fuel, im
 use units::{Check, Gigajoules, MOST_GIGAJOULES, MOST_IMBALANCE, Megajoules, Refusal, greater};
 
 // A shipper's accumulated imbalance in megajoules, either way.
-#[derive(Drop)]
+#[derive(Clone, Copy)]
 pub struct Imbalance(pub i64);
 
 // What a shipper supplies, or why that can't be said.
-#[derive(Drop)]
+#[derive(Clone, Copy)]
 pub enum ImbalanceFuel {
     Supplied(Megajoules),
     Refused(Refusal),

@@ -10,7 +10,7 @@ use units::{Check, Megajoules, Refusal};
 pub const NO_FOUNDATION: usize = 255;
 
 // What the shippers supply together, or why nothing is shared.
-#[derive(Drop)]
+#[derive(Clone, Copy)]
 pub enum UseGas {
     Shared(Megajoules),
     Refused(Refusal),
