@@ -1,4 +1,6 @@
 // Big-endian numbers of up to 32 bits in a file. Every input is taken: a width above four counts as four.
+#![tactic(auto)]
+
 ghost use Rattle.std.specs.Prelude.{◌≡◌, [], ◌∷◌, ◌/◌, ◌%◌, min, length, take, drop};
 ghost use Rattle.std.proofs.lemmas.List.Edits.{sets};
 ghost use Rattle.bigendian.specs.Number.{value, bytes, widest};

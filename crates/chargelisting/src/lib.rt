@@ -1,4 +1,6 @@
 // From a day file's bytes and a rate to the listing of expected overrun charges, opened.
+#![tactic(auto)]
+
 mod charges;
 mod chargestext;
 mod list;

@@ -1,4 +1,6 @@
 // Reads a day file on standard input and prints the overrun charges expected at a rate, or why the file or the rate is refused.
+#![tactic(auto)]
+
 use decimals::Decimal;
 use lines::Listing;
 use units::{MOST_RATE, Rate, Refusal};

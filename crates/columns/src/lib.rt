@@ -1,4 +1,6 @@
 // Columns over the rows of a table, and lists that are lent: mathematics, in specs/ and proofs/, and two routines that all others need.
+#![tactic(auto)]
+
 ghost use Rattle.std.specs.Prelude.{◌≡◌, ◌+◌, min, set};
 
 // The lesser of two counts.

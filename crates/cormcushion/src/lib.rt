@@ -1,4 +1,6 @@
 // The library for callers in other languages: thin functions over the opened routines, on numbers and lists of numbers and bytes.
+#![tactic(auto)]
+
 mod answers;
 mod capacity;
 mod day;

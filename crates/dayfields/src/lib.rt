@@ -1,4 +1,6 @@
 // One field of a file or of a list of entries, taken in full and tested, opened.
+#![tactic(auto)]
+
 mod row;
 
 ghost use Rattle.dayfields.specs.Field.{Taken};

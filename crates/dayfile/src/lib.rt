@@ -1,4 +1,6 @@
 // The day file's reader, opened.
+#![tactic(auto)]
+
 mod reader;
 mod walk;
 

@@ -1,4 +1,6 @@
 // 01, "The day file": the format as data, and where a day's rows stand.
+#![tactic(auto)]
+
 mod body;
 mod day;
 mod form;

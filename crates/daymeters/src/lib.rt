@@ -1,5 +1,7 @@
 // A meter of a day's block, a shipper's metered day, and what is excused of it, opened. An enum can't hold an array, so the hours stand
 // beside the check.
+#![tactic(auto)]
+
 mod excused;
 mod figures;
 mod hours;

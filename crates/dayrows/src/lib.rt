@@ -1,5 +1,7 @@
 // 01's tests of a field, opened: 1 and 2 of its bytes, and 3, 5 and 4 of its row among a day's numbers. Numbers past the end of the list
 // count as zero.
+#![tactic(auto)]
+
 mod bounds;
 mod caps;
 mod field;

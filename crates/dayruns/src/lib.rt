@@ -1,4 +1,6 @@
 // The fields of one tag in a file or in a list of entries, taken one after another and tested, opened.
+#![tactic(auto)]
+
 mod body;
 mod caps;
 mod glance;

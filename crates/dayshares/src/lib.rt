@@ -1,4 +1,6 @@
 // A day's shares, opened: firm in three rounds, then auction, then lower tier.
+#![tactic(auto)]
+
 mod accepted;
 mod class;
 mod firm;

@@ -1,4 +1,6 @@
 // A day's table and its tests, opened.
+#![tactic(auto)]
+
 ghost use Rattle.std.specs.Prelude.{◌≡◌};
 ghost use Rattle.daytable.specs.Acceptance.{bounds_check, idle, first_idle, table_check};
 

@@ -1,4 +1,6 @@
 // A day's block of numbers by what they are, opened: a column of its shippers, a row of its shippers or points.
+#![tactic(auto)]
+
 mod column;
 mod points;
 mod row;

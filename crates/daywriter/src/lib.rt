@@ -1,4 +1,6 @@
 // The day file's writer, opened.
+#![tactic(auto)]
+
 mod examine;
 mod put;
 

@@ -1,4 +1,6 @@
 // A day's tag 4 fields as a receipt list and a delivery list: where they stand in a file, and where the second begins, opened.
+#![tactic(auto)]
+
 ghost use Rattle.std.specs.Prelude.{◌≡◌, ◌+◌};
 ghost use Rattle.dayformat.specs.declared.form.Tag.TheVariants.{Entry};
 ghost use Rattle.dayformat.specs.Layout.{run_size};

@@ -1,1 +1,2 @@
 // 01's figures beside the definitions: a table and its proof alone, in specs/ and proofs/.
+#![tactic(auto)]

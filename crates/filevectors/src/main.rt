@@ -1,4 +1,6 @@
 // The routines on files, run on cases of the second program: each case is read from standard input, and its answer printed on a line.
+#![tactic(auto)]
+
 mod answers;
 mod case;
 mod days;

@@ -1,4 +1,6 @@
 // The lines of a listing, laid into a lent block. Every input is taken: what lies past the block is dropped.
+#![tactic(auto)]
+
 ghost use Rattle.std.specs.Prelude.{[], ◌∷◌, ◌++◌, ◌+◌, ◌^◌, ◌≤◌, ◌<◌, length, take};
 ghost use Rattle.text.specs.Text.{decimal, Laid};
 ghost use Rattle.units.specs.declared.refusal.Check.TheVariants.{Accepted};

@@ -1,4 +1,6 @@
 // The figures of a shipper's day, hours and single figures, and whether they are within their bounds; hours compared with a limit.
+#![tactic(auto)]
+
 mod excused;
 mod hours;
 mod singles;

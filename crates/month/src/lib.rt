@@ -1,4 +1,6 @@
 // A shipper's month: an account of up to 31 days that goes in and comes back by value, its total and its statement.
+#![tactic(auto)]
+
 mod account;
 mod examine;
 mod figures;

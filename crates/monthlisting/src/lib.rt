@@ -1,4 +1,6 @@
 // From days as rows of eight numbers to the text of their month's statement.
+#![tactic(auto)]
+
 mod rows;
 
 ghost use Rattle.lines.specs.Answer.{ListingAnswered};

@@ -1,4 +1,6 @@
 // A month's account as one record, updated where it is: each function copies it out, calls the method by value and stores what comes back.
+#![tactic(auto)]
+
 ghost use Rattle.std.specs.Prelude.{◌≡◌};
 ghost use Rattle.month.specs.Account.{take_in};
 ghost use Rattle.month.specs.Total.{total_up};

@@ -1,4 +1,6 @@
 // A month's account, by value and where it is, run on cases of the second program: each is read, and its answer printed on a line.
+#![tactic(auto)]
+
 mod account;
 mod answers;
 mod case;

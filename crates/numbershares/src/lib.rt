@@ -1,4 +1,6 @@
 // A day's shares from its numbers, opened.
+#![tactic(auto)]
+
 ghost use Rattle.std.specs.Prelude.{◌≡◌, replicate};
 ghost use Rattle.columns.specs.Column.{col};
 ghost use Rattle.units.specs.Bound.{most_rows};

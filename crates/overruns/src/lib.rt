@@ -1,4 +1,6 @@
 // Overruns of a day: hourly, twelve-hourly, daily receipt and delivery, and the greatest of the four.
+#![tactic(auto)]
+
 mod daily;
 mod day;
 mod gas;

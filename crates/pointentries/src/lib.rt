@@ -1,4 +1,6 @@
 // The entries of a point: a part of the receipt list or of the delivery list, opened.
+#![tactic(auto)]
+
 ghost use Rattle.std.specs.Prelude.{◌≡◌, not, ◌+◌, ◌-◌, ◌*◌, ◌≤◌, eqb, replicate};
 ghost use Rattle.columns.specs.Column.{col};
 ghost use Rattle.columns.specs.First.{first};

@@ -1,4 +1,6 @@
 // An hour at a point from its part of a file, shared and laid as lines, opened.
+#![tactic(auto)]
+
 mod entries;
 mod hour;
 

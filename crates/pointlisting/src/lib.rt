@@ -1,4 +1,6 @@
 // From a day file's bytes to the listing of its points.
+#![tactic(auto)]
+
 mod list;
 mod point;
 

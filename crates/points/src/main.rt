@@ -1,4 +1,6 @@
 // Reads a day file on standard input and prints its points, each with the shares of its entries, or why the file is refused.
+#![tactic(auto)]
+
 use lines::Listing;
 
 fn main() {

@@ -1,4 +1,6 @@
 // An hour at a point, opened: the shares of its capacity, or a refusal.
+#![tactic(auto)]
+
 mod examine;
 mod fill;
 mod share;

@@ -1,4 +1,6 @@
 // A day of readings, run on cases of the second program: each is read, and its answer printed on a line.
+#![tactic(auto)]
+
 mod answers;
 mod case;
 mod hours;

@@ -1,4 +1,6 @@
 // One sharing round, opened: the level and the shares of a capacity, or a refusal.
+#![tactic(auto)]
+
 mod examine;
 mod fill;
 mod guess;

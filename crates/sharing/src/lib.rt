@@ -1,1 +1,2 @@
 // Sharing a capacity among rows: mathematics alone, in specs/ and proofs/.
+#![tactic(auto)]

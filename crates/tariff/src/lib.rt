@@ -1,4 +1,6 @@
 // Overrun, variation and request charges in cents; Schedule 2's rates; escalation.
+#![tactic(auto)]
+
 mod charges;
 mod escalation;
 mod rates;

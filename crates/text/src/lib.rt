@@ -1,4 +1,6 @@
 // Numbers and words as bytes, laid into a lent block. Every input is taken: what lies past the block is dropped.
+#![tactic(auto)]
+
 ghost use Rattle.std.specs.Prelude.{◌≡◌, length};
 ghost use Rattle.text.specs.Text.{last_digit, decimal, Laid};
 

@@ -1,4 +1,6 @@
 // Gigajoules, megajoules, cubic metres, cents and rates; 01's bounds; a refusal; a list's figures, and the first above a bound.
+#![tactic(auto)]
+
 mod above;
 mod bounds;
 mod refusal;

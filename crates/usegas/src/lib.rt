@@ -1,4 +1,6 @@
 // System use gas, opened: what each shipper supplies of the general and of the heater gas, and the positive imbalance fuel.
+#![tactic(auto)]
+
 mod examine;
 mod fill;
 mod fuel;

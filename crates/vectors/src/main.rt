@@ -1,4 +1,6 @@
 // The routines run on cases of the second program: each case is read from standard input, and the routine's answer printed on a line.
+#![tactic(auto)]
+
 mod charges;
 mod gas;
 mod lines;

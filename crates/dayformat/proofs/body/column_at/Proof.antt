@@ -16,72 +16,61 @@ abbrev decreases-loop : tie.decreases-loop
 decreases-loop place body left₀ next₀ left next = 5 - next
 
 -- the array has as many kinds, and the place its number's
-long : (c : tie.After-body-of invariant-loop decreases-loop) → length c.body_of.result ≡ 5
-long c = ap length c.body_of.ensures ∙ length_filled 5 (0 of none) (body c.before.args.tag)
+long : (c : tie.After-body_of-body invariant-loop decreases-loop) → length c.body_of-body.result-1 ≡ 5
+long c = ap length c.body_of-body.ensures ∙ length_filled 5 (0 of none) (body c.before.args.tag)
 
-there : (c : tie.In-loop invariant-loop decreases-loop) → c.before.loop.next < length c.before.before.body_of.result
-there c = omega (arith, c.loop-test.true, long c.before.before)
+there : (c : tie.In-loop-next invariant-loop decreases-loop) → c.before.loop-next.next < length c.before.before.body_of-body.result-1
+there c = omega (arith, c.loop-next-test.true, long c.before.before)
 
-is : (c : tie.After-body-of invariant-loop decreases-loop)
-    → column_in c.body_of.result c.before.args.place ≡ column_in (body c.before.args.tag) c.before.args.place
-is c = rw c.body_of.ensures (column_filled c.before.args.tag c.before.args.place)
+is : (c : tie.After-body_of-body invariant-loop decreases-loop)
+    → column_in c.body_of-body.result-1 c.before.args.place ≡ column_in (body c.before.args.tag) c.before.args.place
+is c = rw c.body_of-body.ensures (column_filled c.before.args.tag c.before.args.place)
 
-body-of-requires : tie.Need-body-of-requires invariant-loop decreases-loop
+body-of-requires : tie.Need-body_of-body-requires invariant-loop decreases-loop
 body-of-requires c κs = search rules
 
-loop-holds : tie.Need-loop-init invariant-loop decreases-loop
+loop-holds : tie.Need-loop-next-init invariant-loop decreases-loop
 loop-holds c = search rules
 
-mul-several : tie.Need-overflow-mul-several invariant-loop decreases-loop
+mul-several : tie.Need-offset_bounds-body-next invariant-loop decreases-loop
 mul-several c = search rules
 
-array-copy-out-several : tie.Need-array-copy-out-several invariant-loop decreases-loop
+array-copy-out-several : tie.Need-bounds-body-next invariant-loop decreases-loop
 array-copy-out-several c = search rules
 
-returns : tie.Need-returns invariant-loop decreases-loop
+returns : tie.Need-returns-then-left-several invariant-loop decreases-loop
 returns c =
     let asked = c.before in
     let turn = asked.before.before.before in
     let now = turn.before in
-    sym (column-here now.before.body_of.result now.loop.next _ _ (there turn) asked.if1.true)
-    ∙ now.loop.invariant.0
+    sym (column-here now.before.body_of-body.result-1 now.loop-next.next _ _ (there turn) asked.if-left-several.true)
+    ∙ now.loop-next.invariant.0
     ∙ is now.before
 
-add-next : tie.Need-overflow-add-next invariant-loop decreases-loop
+add-next : tie.Need-overflow_add-next invariant-loop decreases-loop
 add-next c = search rules
 
-loop-less : tie.Need-loop-smaller invariant-loop decreases-loop
+loop-less : tie.Need-loop-next-smaller invariant-loop decreases-loop
 loop-less c = search rules
 
-loop-again : tie.Need-loop-preserved invariant-loop decreases-loop
+loop-again : tie.Need-loop-next-preserved invariant-loop decreases-loop
 loop-again c =
     let asked = c.before in
     let turn = asked.before.before.before in
     let now = turn.before in (
-      sym (column-after now.before.body_of.result now.loop.next _ _ (there turn) asked.if1.false) ∙ now.loop.invariant.0,
-      omega (arith, turn.loop-test.true),
+      sym (column-after now.before.body_of-body.result-1 now.loop-next.next _ _ (there turn) asked.if-left-several.false) ∙ now.loop-next.invariant.0,
+      omega (arith, turn.loop-next-test.true),
     )
 
-returns-2 : tie.Need-returns-2 invariant-loop decreases-loop
+returns-2 : tie.Need-returns invariant-loop decreases-loop
 unfolding column_in
 returns-2 c =
     let now = c.before in
-    let kinds = now.before.body_of.result in
-    let past = drop_of_length-le kinds {i = now.loop.next} (omega (arith, c.loop-test.false, long now.before)) in
-    ap (λ kinds. column_in kinds now.loop.left) (sym past) ∙ now.loop.invariant.0 ∙ is now.before
+    let kinds = now.before.body_of-body.result-1 in
+    let past = drop_of_length-le kinds {i = now.loop-next.next} (omega (arith, c.loop-next-test.false, long now.before)) in
+    ap (λ kinds. column_in kinds now.loop-next.left) (sym past) ∙ now.loop-next.invariant.0 ∙ is now.before
 
-pub column-at-spec : {M : Type 1} → statement M
-column-at-spec =
+pub column_at_spec : {M : Type 1} → statement M
+column_at_spec =
     tie.close
-    (tie.spec
-    invariant-loop
-    decreases-loop
-    body-of-requires
-    loop-holds
-    mul-several
-    array-copy-out-several
-    returns
-    add-next
-    loop-less
-    loop-again
-    returns-2)
+    (tie.spec invariant-loop decreases-loop body-of-requires loop-holds mul-several array-copy-out-several returns add-next loop-less loop-again returns-2)

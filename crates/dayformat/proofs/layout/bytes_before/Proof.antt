@@ -20,90 +20,76 @@ abbrev decreases-loop : tie.decreases-loop
 decreases-loop counts many bytes₀ place₀ bytes place = many - place
 
 -- so few bytes have the fields of a table
-few : (c : tie.After-struct-known invariant-loop decreases-loop)
+few : (c : tie.After-struct_known-1 invariant-loop decreases-loop)
     → c.before.before.count_of.result * (3 + c.before.form_of.result.size) < 2 ^ 41
 few c =
     let counted = c.before.before in
     rw c.before.form_of.ensures
-    (fields-small counted.before.tag_at.result counted.count_of.result (omega (arith, counted.count_of.type-inv)))
+    (fields-small counted.before.tag_at-tag.result counted.count_of.result (omega (arith, counted.count_of.type-inv)))
 
 -- the next table's
-next : (c : tie.After-struct-known invariant-loop decreases-loop)
+next : (c : tie.After-struct_known-1 invariant-loop decreases-loop)
     → let turn = c.before.before.before.before.before in
     c.before.before.count_of.result * (3 + c.before.form_of.result.size)
-    ≡ run_size turn.before.args.counts (tag_at turn.loop.place)
+    ≡ run_size turn.before.args.counts (tag_at turn.loop-place.place)
 next c =
     let counted = c.before.before in
-    rw (c.before.form_of.ensures, ← counted.before.tag_at.ensures, ← counted.count_of.ensures)
+    rw (c.before.form_of.ensures, ← counted.before.tag_at-tag.ensures, ← counted.count_of.ensures)
 
-loop-holds : tie.Need-loop-init invariant-loop decreases-loop
+loop-holds : tie.Need-loop-place-init invariant-loop decreases-loop
 loop-holds c = (omega (arith, sum-none (λ place. run_size c.args.counts (tag_at place)), head-size), omega arith, omega arith)
 
-tag-at-requires : tie.Need-tag-at-requires invariant-loop decreases-loop
+tag-at-requires : tie.Need-tag_at-tag-requires invariant-loop decreases-loop
 tag-at-requires c κs = search rules
 
-count-of-requires : tie.Need-count-of-requires invariant-loop decreases-loop
+count-of-requires : tie.Need-count_of-requires invariant-loop decreases-loop
 count-of-requires c κs = search rules
 
-cast-bytes : tie.Need-overflow-cast-bytes invariant-loop decreases-loop
+cast-bytes : tie.Need-overflow_cast-bytes invariant-loop decreases-loop
 cast-bytes c = search rules
 
-form-of-requires : tie.Need-form-of-requires invariant-loop decreases-loop
+form-of-requires : tie.Need-form_of-requires invariant-loop decreases-loop
 form-of-requires c κs = search rules
 
-add-bytes : tie.Need-overflow-add-bytes invariant-loop decreases-loop
-add-bytes c = omega (arith, ap (λ form. form.size) c.before.form_of.ensures, (small c.before.before.before.tag_at.result).size)
+add-bytes : tie.Need-overflow_add-bytes invariant-loop decreases-loop
+add-bytes c = omega (arith, ap (λ form. form.size) c.before.form_of.ensures, (small c.before.before.before.tag_at-tag.result).size)
 
-mul-bytes : tie.Need-overflow-mul-bytes invariant-loop decreases-loop
+mul-bytes : tie.Need-overflow_mul-bytes invariant-loop decreases-loop
 mul-bytes c = omega (arith, few c)
 
-add-bytes-2 : tie.Need-overflow-add-bytes-2 invariant-loop decreases-loop
+add-bytes-2 : tie.Need-overflow_add-bytes-in-loop-place invariant-loop decreases-loop
 add-bytes-2 c =
     let turn = c.before.before.before.before in
-    omega (arith, few c, turn.before.loop.invariant.2, turn.loop-test.true, turn.before.before.requires)
+    omega (arith, few c, turn.before.loop-place.invariant.2, turn.loop-place-test.true, turn.before.before.requires)
 
-add-place : tie.Need-overflow-add-place invariant-loop decreases-loop
+add-place : tie.Need-overflow_add-place invariant-loop decreases-loop
 add-place c = search rules
 
-loop-less : tie.Need-loop-smaller invariant-loop decreases-loop
+loop-less : tie.Need-loop-place-smaller invariant-loop decreases-loop
 loop-less c = search rules
 
-loop-again : tie.Need-loop-preserved invariant-loop decreases-loop
+loop-again : tie.Need-loop-place-preserved invariant-loop decreases-loop
 loop-again c =
     let turn = c.before.before.before.before in
     let now = turn.before in
-    let inv = now.loop.invariant in (
+    let inv = now.loop-place.invariant in (
       omega (
         arith,
         inv.0,
         next c,
-        sum-next now.loop.place (λ place. run_size now.before.args.counts (tag_at place)),
+        sum-next now.loop-place.place (λ place. run_size now.before.args.counts (tag_at place)),
       ),
-      omega (arith, turn.loop-test.true),
+      omega (arith, turn.loop-place-test.true),
       omega (arith, inv.2, few c),
     )
 
 returns : tie.Need-returns invariant-loop decreases-loop
 returns c =
-    let inv = c.before.loop.invariant in
-    let all = le_antisymm inv.1 c.loop-test.false in
+    let inv = c.before.loop-place.invariant in
+    let all = le_antisymm inv.1 c.loop-place-test.false in
     (inv.0 ∙ ap (bytes_before c.before.before.args.counts) all, omega (arith, inv.1, inv.2))
 
-pub bytes-before-spec : {M : Type 1} → statement M
-bytes-before-spec =
+pub bytes_before_spec : {M : Type 1} → statement M
+bytes_before_spec =
     tie.close
-    (tie.spec
-    invariant-loop
-    decreases-loop
-    loop-holds
-    tag-at-requires
-    count-of-requires
-    cast-bytes
-    form-of-requires
-    add-bytes
-    mul-bytes
-    add-bytes-2
-    add-place
-    loop-less
-    loop-again
-    returns)
+    (tie.spec invariant-loop decreases-loop loop-holds tag-at-requires count-of-requires cast-bytes form-of-requires add-bytes mul-bytes add-bytes-2 add-place loop-less loop-again returns)

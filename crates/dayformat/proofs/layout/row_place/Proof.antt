@@ -7,44 +7,44 @@ use borrow.Author.Rules.{rules}
 use Rattle.dayformat.proofs.layout.row_place.Statement.{statement}
 use Rattle.dayformat.proofs.layout.row_place.Tie as tie
 
-table-place-requires : tie.Need-table-place-requires
+table-place-requires : tie.Need-table_place-requires
 table-place-requires c κs = search rules
 
-numbers-before-requires : tie.Need-numbers-before-requires
-numbers-before-requires c κs = omega (arith, c.table-place.ensures, inside c.before.args.tag)
+numbers-before-requires : tie.Need-numbers_before-start-requires
+numbers-before-requires c κs = omega (arith, c.table_place.ensures, inside c.before.args.tag)
 
-form-of-requires : tie.Need-form-of-requires
+form-of-requires : tie.Need-form_of-requires
 form-of-requires c κs = search rules
 
-rows : (c : tie.After-struct-known)
+rows : (c : tie.After-struct_known-1)
     → c.before.before.before.before.args.row * c.before.form_of.result.columns ≤ 68 * 2 ^ 32
 rows c =
     let start = c.before.before.before.before in
     rw c.before.form_of.ensures (rows-small start.args.tag start.args.row (omega (arith, start.ranges.row)))
 
 -- where the table begins, not far
-near : (c : tie.After-struct-known) → c.before.before.numbers-before.result ≤ 180 * 2 ^ 32
+near : (c : tie.After-struct_known-1) → c.before.before.numbers_before-start.result ≤ 180 * 2 ^ 32
 near c =
     let placed = c.before.before.before in
     omega (
       arith,
-      c.before.before.numbers-before.ensures.1,
-      columns_few placed.table-place.result (omega (arith, placed.table-place.ensures, inside placed.before.args.tag)),
+      c.before.before.numbers_before-start.ensures.1,
+      columns_few placed.table_place.result (omega (arith, placed.table_place.ensures, inside placed.before.args.tag)),
     )
 
-mul-result : tie.Need-overflow-mul-result
+mul-result : tie.Need-overflow_mul-result
 mul-result c = omega (arith, rows c)
 
-add-result : tie.Need-overflow-add-result
+add-result : tie.Need-overflow_add-result
 add-result c = omega (arith, rows c, near c)
 
 returns : tie.Need-returns
 returns c =
     let placed = c.before.before.before in
-    let told = c.before.before.numbers-before.ensures in
-    (rw (c.before.form_of.ensures, ← placed.table-place.ensures, ← told.0), omega (arith, rows c, near c))
+    let told = c.before.before.numbers_before-start.ensures in
+    (rw (c.before.form_of.ensures, ← placed.table_place.ensures, ← told.0), omega (arith, rows c, near c))
 
-pub row-place-spec : {M : Type 1} → statement M
-row-place-spec =
+pub row_place_spec : {M : Type 1} → statement M
+row_place_spec =
     tie.close
     (tie.spec table-place-requires numbers-before-requires form-of-requires mul-result add-result returns)

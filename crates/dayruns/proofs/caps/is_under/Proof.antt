@@ -12,17 +12,17 @@ use borrow.Author.Rules.{rules}
 use Rattle.dayruns.proofs.caps.is_under.Statement.{statement}
 use Rattle.dayruns.proofs.caps.is_under.Tie as tie
 
-abbrev start_of : tie.Else1 → tie.Start
+abbrev start_of : tie.Else-cap-eq0 → tie.Start
 start_of c = c.before.before.before.before
 
 -- the row that caps lies within the numbers, and so do its numbers that cap
-inside : (c : tie.Else1)
+inside : (c : tie.Else-cap-eq0)
     → let args = (start_of c).args in
     row_start args.counts args.named args.row + (cap args.tag).under + (cap args.tag).many ≤ length args.numbers.now
 inside c =
     let start = start_of c in
     let under = (cap-inside start.args.tag).under in
-    ⊎_elim (λ none. absurd (c.if1.false (ap (λ cap. cap.many) c.before.before.cap-of.ensures ∙ none)))
+    ⊎_elim (λ none. absurd (c.if-cap-eq0.false (ap (λ cap. cap.many) c.before.before.cap_of-cap.ensures ∙ none)))
     (λ room. omega (arith, room, rw (← start.pre.0) at under)) start.pre.3
 
 own : (start : tie.Start)
@@ -30,49 +30,49 @@ own : (start : tie.Start)
     args.at + (cap args.tag).place + (cap args.tag).many ≤ length args.numbers.now
 own start = omega (arith, start.requires.2, (cap-inside start.args.tag).inside)
 
-here : (c : tie.After-form-of)
+here : (c : tie.After-form_of)
     → let args = (start_of c.before.before).args in
-    c.before.row-place.result + args.row * c.form_of.result.columns ≡ row_start args.counts args.named args.row
+    c.before.row_place.result + args.row * c.form_of.result.columns ≡ row_start args.counts args.named args.row
 here c =
     let start = start_of c.before.before in
     row_here start.args.counts start.args.named start.args.numbers.now start.args.at start.args.row
-    c.form_of.ensures c.before.row-place.ensures.0 start.pre.1
+    c.form_of.ensures c.before.row_place.ensures.0 start.pre.1
 
-cap-of-requires : tie.Need-cap-of-requires
+cap-of-requires : tie.Need-cap_of-cap-requires
 cap-of-requires c κs = search rules
 
-returns : tie.Need-returns
+returns : tie.Need-returns-then-cap-eq0
 returns c = λ yes.
-    all_under_by _ _ _ _ (λ place l. absurd (omega (arith, l, ap (λ cap. cap.many) c.before.before.cap-of.ensures, c.if1.true)))
+    all_under_by _ _ _ _ (λ place l. absurd (omega (arith, l, ap (λ cap. cap.many) c.before.before.cap_of-cap.ensures, c.if-cap-eq0.true)))
 
-row-place-requires : tie.Need-row-place-requires
+row-place-requires : tie.Need-row_place-requires
 row-place-requires c κs = search rules
 
-form-of-requires : tie.Need-form-of-requires
+form-of-requires : tie.Need-form_of-requires
 form-of-requires c κs = search rules
 
-mul-start : tie.Need-overflow-mul-start
+mul-start : tie.Need-overflow_mul-start
 mul-start c = omega (arith, here c.before, inside c.before.before.before)
 
-add_start : tie.Need-overflow-add-start
+add_start : tie.Need-overflow_add-start
 add_start c = omega (arith, here c.before, inside c.before.before.before)
 
-add-are-under : tie.Need-overflow-add-are-under
+add-are-under : tie.Need-overflow_add-at
 add-are-under c =
     let on = c.before.before.before.before in
-    omega (arith, own (start_of on), ap (λ cap. cap.place) on.before.before.cap-of.ensures)
+    omega (arith, own (start_of on), ap (λ cap. cap.place) on.before.before.cap_of-cap.ensures)
 
-add-are-under-2 : tie.Need-overflow-add-are-under-2
+add-are-under-2 : tie.Need-overflow_add-start-2
 add-are-under-2 c =
     let formed = c.before.before.before in
     let on = formed.before.before in
-    omega (arith, here formed, inside on, ap (λ cap. cap.under) on.before.before.cap-of.ensures)
+    omega (arith, here formed, inside on, ap (λ cap. cap.under) on.before.before.cap_of-cap.ensures)
 
-are-under-requires : tie.Need-are-under-requires
+are-under-requires : tie.Need-are_under-requires
 are-under-requires c κs =
     let formed = c.before.before.before in
     let on = formed.before.before in
-    let cap = on.before.before.cap-of.ensures in
+    let cap = on.before.before.cap_of-cap.ensures in
     omega (
       arith,
       here formed,
@@ -83,23 +83,13 @@ are-under-requires c κs =
       ap (λ cap. cap.under) cap,
     )
 
-returns-2 : tie.Need-returns-2
+returns-2 : tie.Need-returns
 returns-2 c =
     let formed = c.before.before.before.before in
     let on = formed.before.before in
-    rw (← here formed, ← on.before.before.cap-of.ensures) c.are-under.ensures
+    rw (← here formed, ← on.before.before.cap_of-cap.ensures) c.are_under.ensures
 
-pub is-under-spec : {M : Type 1} → statement M
-is-under-spec =
+pub is_under_spec : {M : Type 1} → statement M
+is_under_spec =
     tie.close
-    (tie.spec
-    cap-of-requires
-    returns
-    row-place-requires
-    form-of-requires
-    mul-start
-    add_start
-    add-are-under
-    add-are-under-2
-    are-under-requires
-    returns-2)
+    (tie.spec cap-of-requires returns row-place-requires form-of-requires mul-start add_start add-are-under add-are-under-2 are-under-requires returns-2)

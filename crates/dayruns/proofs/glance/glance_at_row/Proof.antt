@@ -16,110 +16,110 @@ use borrow.Author.Rules.{rules}
 use Rattle.dayruns.proofs.glance.glance_at_row.Statement.{statement}
 use Rattle.dayruns.proofs.glance.glance_at_row.Tie as tie
 
-abbrev read_of : tie.After-names-of → tie.After-see-row
+abbrev read_of : tie.After-names_of-names → tie.After-see_row
 read_of c = c.before.before.before.before
 
-abbrev start_of : tie.After-names-of → tie.Start
+abbrev start_of : tie.After-names_of-names → tie.Start
 start_of c = (read_of c).before.before.before.before
 
 -- the row is read
-kept : (c : tie.After-names-of) → (read_of c).see-row.result ≡ true
-kept c = not-false (read_of c).see-row.result c.before.if1.false
+kept : (c : tie.After-names_of-names) → (read_of c).see_row.result ≡ true
+kept c = not-false (read_of c).see_row.result c.before.if-not-see_row.false
 
 -- its names stand not far
-near : (c : tie.After-names-of) (next : ℕ) → next < 2
-    → (start_of c).args.to + (get_or c.names_of.result next (0 is-a Head)).place < 2 ^ 44
+near : (c : tie.After-names_of-names) (next : ℕ) → next < 2
+    → (start_of c).args.to + (get_or c.names_of-names.result next (0 is-a Head)).place < 2 ^ 44
 near c next l =
-    let is = ap (λ list. (get_or list next (0 is-a Head)).place) c.names_of.ensures in
+    let is = ap (λ list. (get_or list next (0 is-a Head)).place) c.names_of-names.ensures in
     omega (arith, (start_of c).requires.1, names-near (start_of c).args.tag next (0 is-a Head) l, is)
 
 -- where both names are found, the row of the first
-abbrev first-of-names : tie.Else3 → tie.After-row-keyed-from
+abbrev first-of-names : tie.Else-count_of-second → tie.After-row_keyed_from-first
 first-of-names c = c.before.before.before.before.before.before.before.before
 
-abbrev named-of : tie.After-row-keyed-from → tie.After-names-of
+abbrev named-of : tie.After-row_keyed_from-first → tie.After-names_of-names
 named-of c = c.before.before.before.before
 
-found : (c : tie.Else3)
+found : (c : tie.Else-count_of-second)
     → let first = first-of-names c in
-    first.row-keyed-from.result
-    < count (start_of (named-of first)).args.counts (get_or (named-of first).names_of.result 0 (0 is-a Head)).tag
-found c = let there = c.before.before in omega (arith, there.if2.false, there.before.count_of.ensures)
+    first.row_keyed_from-first.result
+    < count (start_of (named-of first)).args.counts (get_or (named-of first).names_of-names.result 0 (0 is-a Head)).tag
+found c = let there = c.before.before in omega (arith, there.if-count_of-first.false, there.before.count_of.ensures)
 
-see-row-requires : tie.Need-see-row-requires
+see-row-requires : tie.Need-see_row-requires
 see-row-requires c κs = search rules
 
-same_length : tie.Need-same-length
+same_length : tie.Need-shape_of-numbers-then-not-see_row
 same_length c = search rules
 
-returns : tie.Need-returns
-returns c = unsure _ _ _ _ _ _ _ c.before.before.before.see-row.ensures
+returns : tie.Need-returns-then-not-see_row
+returns c = unsure _ _ _ _ _ _ _ c.before.before.before.see_row.ensures
 
-names-of-requires : tie.Need-names-of-requires
+names-of-requires : tie.Need-names_of-names-requires
 names-of-requires c κs = search rules
 
-array-copy-out-one : tie.Need-array-copy-out-one
+array-copy-out-one : tie.Need-bounds-names-0
 array-copy-out-one c = search rules
 
-add-row-keyed-from : tie.Need-overflow-add-row-keyed-from
+add-row-keyed-from : tie.Need-overflow_add-to
 add-row-keyed-from c = omega (arith, near c.before.before.before 0 (omega arith))
 
-row-keyed-from-requires : tie.Need-row-keyed-from-requires
+row-keyed-from-requires : tie.Need-row_keyed_from-first-requires
 row-keyed-from-requires c κs =
     let named = c.before.before.before in
-    name-inside (read_of named).see-row.ensures (kept named) (start_of named).requires.0 named.names_of.ensures 0 (0 is-a Head)
+    name-inside (read_of named).see_row.ensures (kept named) (start_of named).requires.0 named.names_of-names.ensures 0 (0 is-a Head)
     (omega arith)
 
-array-copy-out-other : tie.Need-array-copy-out-other
+array-copy-out-other : tie.Need-bounds-names-1
 array-copy-out-other c = search rules
 
-add-row-keyed-from-2 : tie.Need-overflow-add-row-keyed-from-2
+add-row-keyed-from-2 : tie.Need-overflow_add-to-2
 add-row-keyed-from-2 c = omega (arith, near c.before.before.before.before.before.before.before 1 (omega arith))
 
-row-keyed-from-requires-2 : tie.Need-row-keyed-from-requires-2
+row-keyed-from-requires-2 : tie.Need-row_keyed_from-second-requires
 row-keyed-from-requires-2 c κs =
     let named = c.before.before.before.before.before.before.before in
-    name-inside (read_of named).see-row.ensures (kept named) (start_of named).requires.0 named.names_of.ensures 1 (0 is-a Head)
+    name-inside (read_of named).see_row.ensures (kept named) (start_of named).requires.0 named.names_of-names.ensures 1 (0 is-a Head)
     (omega arith)
 
-count-of-requires : tie.Need-count-of-requires
+count-of-requires : tie.Need-count_of-requires
 count-of-requires c κs = search rules
 
-cast-if2 : tie.Need-overflow-cast-if2
+cast-if2 : tie.Need-overflow_cast-count_of
 cast-if2 c = search rules
 
-same-length-2 : tie.Need-same-length-2
+same-length-2 : tie.Need-shape_of-numbers-then-count_of-first
 same-length-2 c = search rules
 
-returns-2 : tie.Need-returns-2
+returns-2 : tie.Need-returns-then-count_of-first
 returns-2 c =
     let first = c.before.before.before.before.before.before in
-    unsure _ _ _ _ _ _ _ (read_of (named-of first)).see-row.ensures
+    unsure _ _ _ _ _ _ _ (read_of (named-of first)).see_row.ensures
 
-count-of-requires-2 : tie.Need-count-of-requires-2
+count-of-requires-2 : tie.Need-count_of-requires-2
 count-of-requires-2 c κs = search rules
 
-cast-if3 : tie.Need-overflow-cast-if3
+cast-if3 : tie.Need-overflow_cast-count_of-2
 cast-if3 c = search rules
 
-same-length-3 : tie.Need-same-length-3
+same-length-3 : tie.Need-shape_of-numbers-then-count_of-second
 same-length-3 c = search rules
 
-returns-3 : tie.Need-returns-3
+returns-3 : tie.Need-returns-then-count_of-second
 returns-3 c =
     let first = c.before.before.before.before.before.before.before.before in
-    unsure _ _ _ _ _ _ _ (read_of (named-of first)).see-row.ensures
+    unsure _ _ _ _ _ _ _ (read_of (named-of first)).see_row.ensures
 
-is-under-requires : tie.Need-is-under-requires
+is-under-requires : tie.Need-is_under-requires
 is-under-requires c κs =
     let named = named-of (first-of-names c.before) in
-    caps-inside (read_of named).see-row.ensures (kept named) (start_of named).pre.0 named.names_of.ensures (0 is-a Head)
+    caps-inside (read_of named).see_row.ensures (kept named) (start_of named).pre.0 named.names_of-names.ensures (0 is-a Head)
     (found c.before)
 
-same-length-4 : tie.Need-same-length-4
+same-length-4 : tie.Need-shape_of-numbers
 same-length-4 c = search rules
 
-returns-4 : tie.Need-returns-4
+returns-4 : tie.Need-returns
 returns-4 c =
     let on = c.before.before in
     let counted = on.before in
@@ -127,41 +127,20 @@ returns-4 c =
     let first = first-of-names on in
     let named = named-of first in
     let start = start_of named in
-    glanced _ _ _ _ _ _ _ (read_of named).see-row.ensures
+    glanced _ _ _ _ _ _ _ (read_of named).see_row.ensures
     (λ yes.
-    let same = first.row-keyed-from.ensures (found on) in
-    let other = second.row-keyed-from2.ensures (omega (arith, on.if3.false, counted.count-of2.ensures)) in (
+    let same = first.row_keyed_from-first.ensures (found on) in
+    let other = second.row_keyed_from-second.ensures (omega (arith, on.if-count_of-second.false, counted.count_of-2.ensures)) in (
       kept named,
       refl,
-      both-named start.args.counts _ start.args.tag start.args.row start.pre.0 (0 is-a Head) named.names_of.ensures
+      both-named start.args.counts _ start.args.tag start.args.row start.pre.0 (0 is-a Head) named.names_of-names.ensures
           (keyed-listed start.args.counts _ _ _ _ (found on) same)
-          (keyed-listed start.args.counts _ _ _ _ (omega (arith, on.if3.false, counted.count-of2.ensures)) other),
-      first-caps start.args.counts _ start.args.tag start.args.row start.pre.0 (0 is-a Head) named.names_of.ensures
-          (found on) same (c.is-under.ensures yes),
+          (keyed-listed start.args.counts _ _ _ _ (omega (arith, on.if-count_of-second.false, counted.count_of-2.ensures)) other),
+      first-caps start.args.counts _ start.args.tag start.args.row start.pre.0 (0 is-a Head) named.names_of-names.ensures
+          (found on) same (c.is_under.ensures yes),
     ))
 
-pub glance-at-row-spec : {M : Type 1} → statement M
-glance-at-row-spec =
+pub glance_at_row_spec : {M : Type 1} → statement M
+glance_at_row_spec =
     tie.close
-    (tie.spec
-    see-row-requires
-    same_length
-    returns
-    names-of-requires
-    array-copy-out-one
-    add-row-keyed-from
-    row-keyed-from-requires
-    array-copy-out-other
-    add-row-keyed-from-2
-    row-keyed-from-requires-2
-    count-of-requires
-    cast-if2
-    same-length-2
-    returns-2
-    count-of-requires-2
-    cast-if3
-    same-length-3
-    returns-3
-    is-under-requires
-    same-length-4
-    returns-4)
+    (tie.spec see-row-requires same_length returns names-of-requires array-copy-out-one add-row-keyed-from row-keyed-from-requires array-copy-out-other add-row-keyed-from-2 row-keyed-from-requires-2 count-of-requires cast-if2 same-length-2 returns-2 count-of-requires-2 cast-if3 same-length-3 returns-3 is-under-requires same-length-4 returns-4)

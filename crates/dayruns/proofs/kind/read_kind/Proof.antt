@@ -16,57 +16,57 @@ abbrev decreases-loop : tie.decreases-loop
 decreases-loop file from many column numbers₀ width kept₀ place₀ numbers kept place = many - place
 
 -- the bytes of the next number
-there : (c : tie.In-loop invariant-loop decreases-loop)
+there : (c : tie.In-loop-place invariant-loop decreases-loop)
     → let args = c.before.before.before.before.args in
-    args.from.byte + c.before.loop.place * args.column.width + args.column.width ≤ length args.file.now
+    args.from.byte + c.before.loop-place.place * args.column.width + args.column.width ≤ length args.file.now
 there c =
     let start = c.before.before.before.before in
     let args = start.args in
-    number-there args.from.byte args.many args.column.width c.before.loop.place c.loop-test.true start.requires.1
+    number-there args.from.byte args.many args.column.width c.before.loop-place.place c.loop-place-test.true start.requires.1
 
-loop-holds : tie.Need-loop-init invariant-loop decreases-loop
+loop-holds : tie.Need-loop-place-init invariant-loop decreases-loop
 loop-holds c = reading-none _ _ _ _ _
 
-mul-byte : tie.Need-overflow-mul-byte invariant-loop decreases-loop
+mul-byte : tie.Need-overflow_mul-byte invariant-loop decreases-loop
 mul-byte c = omega (arith, there c)
 
-add-byte : tie.Need-overflow-add-byte invariant-loop decreases-loop
+add-byte : tie.Need-overflow_add-byte invariant-loop decreases-loop
 add-byte c = omega (arith, there c.before)
 
-add-number-at : tie.Need-overflow-add-number-at invariant-loop decreases-loop
+add-number-at : tie.Need-overflow_add-byte-in-loop-place invariant-loop decreases-loop
 add-number-at c = omega (arith, there c.before)
 
-sub-number-at : tie.Need-overflow-sub-number-at invariant-loop decreases-loop
+sub-number-at : tie.Need-slice_bounds-number_at-count invariant-loop decreases-loop
 sub-number-at c = search rules
 
-part-number-at-start : tie.Need-slice-bounds-number-at-start invariant-loop decreases-loop
+part-number-at-start : tie.Need-slice_bounds-number_at-start invariant-loop decreases-loop
 part-number-at-start c = search rules
 
-part-number-at-end : tie.Need-slice-bounds-number-at-end invariant-loop decreases-loop
+part-number-at-end : tie.Need-slice_bounds-number_at-end invariant-loop decreases-loop
 part-number-at-end c = omega (arith, there c.before)
 
-number-at-requires : tie.Need-number-at-requires invariant-loop decreases-loop
+number-at-requires : tie.Need-number_at-number-requires invariant-loop decreases-loop
 number-at-requires c κs = search rules
 
-cast-number : tie.Need-overflow-cast-number invariant-loop decreases-loop
+cast-number : tie.Need-overflow_cast-number invariant-loop decreases-loop
 cast-number c = search rules
 
-add-numbers : tie.Need-overflow-add-numbers invariant-loop decreases-loop
+add-numbers : tie.Need-overflow_add-numbers invariant-loop decreases-loop
 add-numbers c = search rules
 
-mul-numbers : tie.Need-overflow-mul-numbers invariant-loop decreases-loop
+mul-numbers : tie.Need-offset_bounds-numbers-from invariant-loop decreases-loop
 mul-numbers c = search rules
 
-slice-write-numbers : tie.Need-slice-write-numbers invariant-loop decreases-loop
+slice-write-numbers : tie.Need-bounds-numbers-from invariant-loop decreases-loop
 slice-write-numbers c = search rules
 
-add-place : tie.Need-overflow-add-place invariant-loop decreases-loop
+add-place : tie.Need-overflow_step-place invariant-loop decreases-loop
 add-place c = search rules
 
-loop-less : tie.Need-loop-smaller invariant-loop decreases-loop
+loop-less : tie.Need-loop-place-smaller invariant-loop decreases-loop
 loop-less c = search rules
 
-loop-again : tie.Need-loop-preserved invariant-loop decreases-loop
+loop-again : tie.Need-loop-place-preserved invariant-loop decreases-loop
 loop-again c =
     let low = c.before.before in
     let read = low.before.before.before in
@@ -74,53 +74,31 @@ loop-again c =
     let now = turn.before in
     let start = now.before.before.before in
     reading-next _ _ _ _ _
-    now.loop.place now.loop.invariant turn.loop-test.true start.requires.0 read.number_at.ensures refl
+    now.loop-place.place now.loop-place.invariant turn.loop-place-test.true start.requires.0 read.number_at-number.ensures refl
     (λ kept.
-    let high-kept = kept-passed c.if2.branch kept in
-    let low-kept = kept-passed low.if1.branch high-kept.1 in
+    let high-kept = kept-passed c.if-column-number.branch kept in
+    let low-kept = kept-passed low.if-number-column.branch high-kept.1 in
     (low-kept.1, low-kept.0.left, high-kept.0.left))
 
-mul-t19 : tie.Need-overflow-mul-t19 invariant-loop decreases-loop
+mul-t19 : tie.Need-overflow_mul-result invariant-loop decreases-loop
 mul-t19 c = search rules
 
-add-t20 : tie.Need-overflow-add-t20 invariant-loop decreases-loop
+add-t20 : tie.Need-overflow_add-result invariant-loop decreases-loop
 add-t20 c = search rules
 
-add-t21 : tie.Need-overflow-add-t21 invariant-loop decreases-loop
+add-t21 : tie.Need-overflow_add-result-2 invariant-loop decreases-loop
 add-t21 c = search rules
 
-same_length : tie.Need-same-length invariant-loop decreases-loop
+same_length : tie.Need-shape_of-numbers invariant-loop decreases-loop
 same_length c = search rules
 
 returns : tie.Need-returns invariant-loop decreases-loop
 returns c =
     let end = c.before.before in
     let now = end.before in
-    reading-all _ _ _ _ _ now.loop.place now.loop.invariant end.loop-test.false
+    reading-all _ _ _ _ _ now.loop-place.place now.loop-place.invariant end.loop-place-test.false
 
-pub read-kind-spec : {M : Type 1} → statement M
-read-kind-spec =
+pub read_kind_spec : {M : Type 1} → statement M
+read_kind_spec =
     tie.close
-    (tie.spec
-    invariant-loop
-    decreases-loop
-    loop-holds
-    mul-byte
-    add-byte
-    add-number-at
-    sub-number-at
-    part-number-at-start
-    part-number-at-end
-    number-at-requires
-    cast-number
-    add-numbers
-    mul-numbers
-    slice-write-numbers
-    add-place
-    loop-less
-    loop-again
-    mul-t19
-    add-t20
-    add-t21
-    same_length
-    returns)
+    (tie.spec invariant-loop decreases-loop loop-holds mul-byte add-byte add-number-at sub-number-at part-number-at-start part-number-at-end number-at-requires cast-number add-numbers mul-numbers slice-write-numbers add-place loop-less loop-again mul-t19 add-t20 add-t21 same_length returns)

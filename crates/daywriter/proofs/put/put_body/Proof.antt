@@ -18,35 +18,35 @@ abbrev decreases-loop : tie.decreases-loop
 decreases-loop tag numbers from block₀ at columns place₀ byte₀ block place byte = columns - place
 
 -- in a turn the place is one of the row's
-inside : (c : tie.In-loop invariant-loop decreases-loop) → c.before.loop.place < (form c.before.before.before.before.before.args.tag).columns
-inside c = omega (arith, c.loop-test.true, ap (λ form. form.columns) c.before.before.form_of.ensures)
+inside : (c : tie.In-loop-place invariant-loop decreases-loop) → c.before.loop-place.place < (form c.before.before.before.before.before.args.tag).columns
+inside c = omega (arith, c.loop-place-test.true, ap (λ form. form.columns) c.before.before.form_of-columns.ensures)
 
-form-of-requires : tie.Need-form-of-requires invariant-loop decreases-loop
+form-of-requires : tie.Need-form_of-columns-requires invariant-loop decreases-loop
 form-of-requires c κs = search rules
 
-loop-holds : tie.Need-loop-init invariant-loop decreases-loop
+loop-holds : tie.Need-loop-place-init invariant-loop decreases-loop
 loop-holds c =
     let args = c.before.before.before.args in
-    (lays-none (col args.numbers.now) args.tag args.from args.block.now args.at, omega arith, omega arith)
+    (lays-none (col args.numbers.now) args.tag args.from args.block-1.now args.at, omega arith, omega arith)
 
-column-at-requires : tie.Need-column-at-requires invariant-loop decreases-loop
+column-at-requires : tie.Need-column_at-width-requires invariant-loop decreases-loop
 column-at-requires c κs = search rules
 
-add-number-of : tie.Need-overflow-add-number-of invariant-loop decreases-loop
+add-number-of : tie.Need-overflow_add-from invariant-loop decreases-loop
 add-number-of c =
     let start = c.before.before.before.before.before.before in
     omega (arith, start.requires.0, inside c.before, (small start.args.tag).columns)
 
-number-of-requires : tie.Need-number-of-requires invariant-loop decreases-loop
+number-of-requires : tie.Need-number_of-number-requires invariant-loop decreases-loop
 number-of-requires c κs = search rules
 
-cast-put-number : tie.Need-overflow-cast-put-number invariant-loop decreases-loop
+cast-put-number : tie.Need-overflow_cast-number invariant-loop decreases-loop
 cast-put-number c = search rules
 
-put-number-requires : tie.Need-put-number-requires invariant-loop decreases-loop
+put-number-requires : tie.Need-put_number-requires invariant-loop decreases-loop
 put-number-requires c κs = search rules
 
-add-byte : tie.Need-overflow-add-byte invariant-loop decreases-loop
+add-byte : tie.Need-overflow_add-byte invariant-loop decreases-loop
 add-byte c =
     let column = c.before.before.before.before.before in
     let now = column.before.before in
@@ -54,20 +54,20 @@ add-byte c =
     omega (
       arith,
       start.requires.1,
-      now.loop.invariant.2,
+      now.loop-place.invariant.2,
       inside column.before,
       (small start.args.tag).columns,
-      narrow start.args.tag now.loop.place,
-      ap (λ column. column.width) column.column-at.ensures,
+      narrow start.args.tag now.loop-place.place,
+      ap (λ column. column.width) column.column_at-width.ensures,
     )
 
-add-place : tie.Need-overflow-add-place invariant-loop decreases-loop
+add-place : tie.Need-overflow_add-place invariant-loop decreases-loop
 add-place c = search rules
 
-loop-less : tie.Need-loop-smaller invariant-loop decreases-loop
+loop-less : tie.Need-loop-place-smaller invariant-loop decreases-loop
 loop-less c = search rules
 
-loop-again : tie.Need-loop-preserved invariant-loop decreases-loop
+loop-again : tie.Need-loop-place-preserved invariant-loop decreases-loop
 loop-again c =
     let put = c.before.before in
     let number = put.before.before in
@@ -75,39 +75,24 @@ loop-again c =
     let turn = column.before in
     let now = turn.before in
     let args = now.before.before.before.before.args in (
-      lays-next (col args.numbers.now) args.tag args.from args.block.now args.at now.loop.place now.loop.byte
-          now.loop.invariant.0 (inside turn) column.column-at.ensures number.number_of_lem.ensures put.put-number.ensures,
-      omega (arith, turn.loop-test.true),
-      omega (arith, now.loop.invariant.2, narrow args.tag now.loop.place, ap (λ column. column.width) column.column-at.ensures),
+      lays-next (col args.numbers.now) args.tag args.from args.block-1.now args.at now.loop-place.place now.loop-place.byte
+          now.loop-place.invariant.0 (inside turn) column.column_at-width.ensures number.number_of_lem.ensures put.put_number.ensures,
+      omega (arith, turn.loop-place-test.true),
+      omega (arith, now.loop-place.invariant.2, narrow args.tag now.loop-place.place, ap (λ column. column.width) column.column_at-width.ensures),
     )
 
-same_length : tie.Need-same-length invariant-loop decreases-loop
-same_length c = c.before.loop.invariant.0.long
+same_length : tie.Need-shape_of-block invariant-loop decreases-loop
+same_length c = c.before.loop-place.invariant.0.long
 
 returns : tie.Need-returns invariant-loop decreases-loop
 returns c =
     let now = c.before in
     let args = now.before.before.before.before.args in
-    lays_all (col args.numbers.now) args.tag args.from args.block.now args.at now.loop.place now.loop.byte
-    now.loop.invariant.0
-    (omega (arith, c.loop-test.false, ap (λ form. form.columns) now.before.form_of.ensures))
+    lays_all (col args.numbers.now) args.tag args.from args.block-1.now args.at now.loop-place.place now.loop-place.byte
+    now.loop-place.invariant.0
+    (omega (arith, c.loop-place-test.false, ap (λ form. form.columns) now.before.form_of-columns.ensures))
 
-pub put-body-spec : {M : Type 1} → statement M
-put-body-spec =
+pub put_body_spec : {M : Type 1} → statement M
+put_body_spec =
     tie.close
-    (tie.spec
-    invariant-loop
-    decreases-loop
-    form-of-requires
-    loop-holds
-    column-at-requires
-    add-number-of
-    number-of-requires
-    cast-put-number
-    put-number-requires
-    add-byte
-    add-place
-    loop-less
-    loop-again
-    same_length
-    returns)
+    (tie.spec invariant-loop decreases-loop form-of-requires loop-holds column-at-requires add-number-of number-of-requires cast-put-number put-number-requires add-byte add-place loop-less loop-again same_length returns)

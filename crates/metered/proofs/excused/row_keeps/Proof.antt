@@ -26,35 +26,35 @@ decreases-loop metered excused kept₀ hour₀ kept hour = 24 - hour
 long : (c : tie.Start invariant-loop decreases-loop) → (length c.args.t1 ≡ 24) × (length c.args.t2 ≡ 24)
 long c = (search rules, search rules)
 
-loop-holds : tie.Need-loop-init invariant-loop decreases-loop
+loop-holds : tie.Need-loop-hour-init invariant-loop decreases-loop
 loop-holds c = λ e. searched_none _ _
 
-mul-if1 : tie.Need-overflow-mul-if1 invariant-loop decreases-loop
+mul-if1 : tie.Need-offset_bounds-metered-hour invariant-loop decreases-loop
 mul-if1 c = search rules
 
-element-copy-out-if1 : tie.Need-element-copy-out-if1 invariant-loop decreases-loop
+element-copy-out-if1 : tie.Need-bounds-metered-hour invariant-loop decreases-loop
 element-copy-out-if1 c = search rules
 
-mul-if1-2 : tie.Need-overflow-mul-if1-2 invariant-loop decreases-loop
+mul-if1-2 : tie.Need-offset_bounds-excused-hour invariant-loop decreases-loop
 mul-if1-2 c = search rules
 
-element-copy-out-if1-2 : tie.Need-element-copy-out-if1-2 invariant-loop decreases-loop
+element-copy-out-if1-2 : tie.Need-bounds-excused-hour invariant-loop decreases-loop
 element-copy-out-if1-2 c = search rules
 
-add-hour : tie.Need-overflow-add-hour invariant-loop decreases-loop
+add-hour : tie.Need-overflow_step-hour invariant-loop decreases-loop
 add-hour c = search rules
 
-loop-less : tie.Need-loop-smaller invariant-loop decreases-loop
+loop-less : tie.Need-loop-hour-smaller invariant-loop decreases-loop
 loop-less c = search rules
 
-loop-again : tie.Need-loop-preserved invariant-loop decreases-loop
+loop-again : tie.Need-loop-hour-preserved invariant-loop decreases-loop
 loop-again c = λ e.
     let test = c.before in
     let turns = test.before in
     let rows = turns.before.args in
-    let kept = kept-passed c.if1.branch e in
-    searched_more _ _ _ (turns.loop.invariant kept.1) test.loop-test.true
-    (rw (← figure_at rows.t1 turns.loop.hour, ← figure_at rows.t2 turns.loop.hour) (le-ltb _ _ kept.0.left))
+    let kept = kept-passed c.if-metered-hour.branch e in
+    searched_more _ _ _ (turns.loop-hour.invariant kept.1) test.loop-hour-test.true
+    (rw (← figure_at rows.t1 turns.loop-hour.hour, ← figure_at rows.t2 turns.loop-hour.hour) (le-ltb _ _ kept.0.left))
 
 returns : tie.Need-returns invariant-loop decreases-loop
 returns c = λ e.
@@ -62,20 +62,9 @@ returns c = λ e.
     let rows = turns.before.args in
     let both : both_have (bare_hours rows.t1) (bare_hours rows.t2) ≡ 24 =
     omega (arith, length-figures rows.t1, length-figures rows.t2, long turns.before) in
-    accepts-clear _ _ _ (rw both (omega (arith, ends _ _ _ (turns.loop.invariant e) c.loop-test.false, c.loop-test.false)))
+    accepts-clear _ _ _ (rw both (omega (arith, ends _ _ _ (turns.loop-hour.invariant e) c.loop-hour-test.false, c.loop-hour-test.false)))
 
-pub row-keeps-spec : {M : Type 1} → statement M
-row-keeps-spec =
+pub row_keeps_spec : {M : Type 1} → statement M
+row_keeps_spec =
     tie.close
-    (tie.spec
-    invariant-loop
-    decreases-loop
-    loop-holds
-    mul-if1
-    element-copy-out-if1
-    mul-if1-2
-    element-copy-out-if1-2
-    add-hour
-    loop-less
-    loop-again
-    returns)
+    (tie.spec invariant-loop decreases-loop loop-holds mul-if1 element-copy-out-if1 mul-if1-2 element-copy-out-if1-2 add-hour loop-less loop-again returns)

@@ -29,99 +29,88 @@ day c =
     }
 
 -- where both days' hours are made
-abbrev made_of : tie.After-examine-day → tie.After-both-days
+abbrev made_of : tie.After-examine_day-found → tie.After-both_days-both
 made_of c = c.before.before
 
-abbrev start_of : tie.After-examine-day → tie.Start
+abbrev start_of : tie.After-examine_day-found → tie.Start
 start_of c = (made_of c).before.before
 
 -- what is found is the chain of tests as it is defined
-checked : (c : tie.After-examine-day)
-    → let start = c.before.before.before.before in c.examine-day.result ≡ excused_day_check (day start) nothing_excused
+checked : (c : tie.After-examine_day-found)
+    → let start = c.before.before.before.before in c.examine_day-found.result ≡ excused_day_check (day start) nothing_excused
 unfolding day_check
 checked c =
     let made = c.before.before in
     let start = made.before.before in
     rw (
-      c.examine-day.ensures,
-      made.both_days.ensures,
+      c.examine_day-found.ensures,
+      made.both_days-both.ensures,
       first-days start.args.yesterday (get_or start.args.t4 0 []) start.well-formed.1.1.0.1.0.1,
     )
     (sym (check-nothing (day start)))
 
-abbrev tested : tie.After-examine-day → Tested
+abbrev tested : tie.After-examine_day-found → Tested
 tested c =
     record {
       D = day (start_of c);
       E = nothing_excused;
-      both = (made_of c).both_days.result;
-      joined = (made_of c).both_days.ensures;
+      both = (made_of c).both_days-both.result;
+      joined = (made_of c).both_days-both.ensures;
       excused_both = bare_hours nothing_excused.yesterday ++ delivered nothing_excused.hours;
       excused_joined = refl;
-      found = c.examine-day.result;
+      found = c.examine_day-found.result;
       checked = checked c;
     }
 
-long : (c : tie.After-both-days) → length c.both_days.result ≡ 35
+long : (c : tie.After-both_days-both) → length c.both_days-both.result ≡ 35
 long c = search rules
 
 same : (both : List ℕ) → both ≡ compared both (replicate 35 0)
 same both = sym (compared-all both (replicate 35 0) (zero-hours 35))
 
-array-copy-out-both-days : tie.Need-array-copy-out-both-days
+array-copy-out-both-days : tie.Need-bounds-hours-0
 array-copy-out-both-days c = search rules
 
-both-days-requires : tie.Need-both-days-requires
+both-days-requires : tie.Need-both_days-both-requires
 both-days-requires c κs = search rules
 
-array-share-prefix-both : tie.Need-array-share-prefix-both
+array-share-prefix-both : tie.Need-slice_bounds-both-end
 array-share-prefix-both c = search rules
 
-slice-aggregate-examine-day : tie.Need-slice-aggregate-examine-day
-slice-aggregate-examine-day c = sym (length-take-le 11 c.before.both_days.result (omega (arith, long c.before)))
+slice-aggregate-examine-day : tie.Need-slice_bounds-examine_day-end
+slice-aggregate-examine-day c = sym (length-take-le 11 c.before.both_days-both.result (omega (arith, long c.before)))
 
-examine-day-requires : tie.Need-examine-day-requires
+examine-day-requires : tie.Need-examine_day-found-requires
 examine-day-requires c κs = search rules
 
-enum-known-found : tie.Need-enum-known-found
+enum-known-found : tie.Need-enum_known-found
 enum-known-found c = search rules
 
-enum_told : tie.Need-enum-told
+enum_told : tie.Need-enum_told-1
 enum_told c = search rules
 
-slice-aggregate-four-overruns : tie.Need-slice-aggregate-four-overruns
+slice-aggregate-four-overruns : tie.Need-slice_bounds-four_overruns-end
 slice-aggregate-four-overruns c = search rules
 
-four-overruns-requires : tie.Need-four-overruns-requires
+four-overruns-requires : tie.Need-four_overruns-requires
 four-overruns-requires c κs =
     let told = c.before in
     let tests = told.before.before in
-    day-fits (tested tests) told.enum_told.given.1 (same (made_of tests).both_days.result) (long (made_of tests))
+    day-fits (tested tests) told.enum_told-1.given.1 (same (made_of tests).both_days-both.result) (long (made_of tests))
 
-returns : tie.Need-returns
+returns : tie.Need-returns-in-Refused
 returns c =
     let tests = c.before.before.before in
-    day-refused (tested tests) c.before.found.given.1 ∙ day-nothing (day (start_of tests))
+    day-refused (tested tests) c.before.found-1.given.1 ∙ day-nothing (day (start_of tests))
 
-returns-2 : tie.Need-returns-2
+returns-2 : tie.Need-returns-in-Accepted
 returns-2 c =
     let told = c.before.before in
     let tests = told.before.before in
-    day-over (tested tests) told.enum_told.given.1 (same (made_of tests).both_days.result) c.four-overruns.ensures
+    day-over (tested tests) told.enum_told-1.given.1 (same (made_of tests).both_days-both.result) c.four_overruns.ensures
     ∙ day-nothing (day (start_of tests))
 
-pub metered-overruns-spec : {M : Type 1} → statement M
-metered-overruns-spec =
+pub metered_overruns_spec : {M : Type 1} → statement M
+metered_overruns_spec =
     tie.close
-    (tie.spec
-    array-copy-out-both-days
-    both-days-requires
-    array-share-prefix-both
-    slice-aggregate-examine-day
-    examine-day-requires
-    enum-known-found
-    enum_told
-    slice-aggregate-four-overruns
-    four-overruns-requires
-    returns
-    returns-2)
+    (tie.spec array-copy-out-both-days both-days-requires array-share-prefix-both slice-aggregate-examine-day examine-day-requires enum-known-found enum_told slice-aggregate-four-overruns four-overruns-requires returns returns-2)

@@ -10,42 +10,34 @@ use Rattle.month.proofs.account.Account.take_in.Statement.{statement}
 use Rattle.month.proofs.account.Account.take_in.Tie as tie
 
 -- where the day is accepted
-few : (c : tie.After-enum-told2) → c.before.before.before.args.t1.count < most_days
-few c = (next-kept _ _ _ (sym c.before.before.examine-next.ensures ∙ c.enum-told2.given.1)).few
+few : (c : tie.In-Accepted) → c.before.before.before.args.t1.count < most_days
+few c = (next-kept _ _ _ (sym c.before.before.examine_next-found.ensures ∙ c.enum_told-in-Accepted-1.given.1)).few
 
-examine-next-requires : tie.Need-examine-next-requires
+examine-next-requires : tie.Need-examine_next-found-requires
 examine-next-requires c κs = search rules
 
-enum_told : tie.Need-enum-told
+enum_told : tie.Need-enum_told-1
 enum_told c = search rules
 
-enum-told-2 : tie.Need-enum-told-2
+enum-told-2 : tie.Need-enum_told-in-Accepted
 enum-told-2 c = search rules
 
-mul-day : tie.Need-overflow-mul-day
+mul-day : tie.Need-offset_bounds-self-count
 mul-day c = omega (arith, few c)
 
-element-set-from-day : tie.Need-element-set-from-day
+element-set-from-day : tie.Need-bounds-self-count
 element-set-from-day c = few c
 
-add-self : tie.Need-overflow-add-self
+add-self : tie.Need-overflow_add-self
 add-self c = omega (arith, few c)
 
-returns : tie.Need-returns
-returns c = day-left _ _ c.before.before.examine-next.ensures c.enum_told.given.1
+returns : tie.Need-returns-in-Refused
+returns c = day-left _ _ c.before.before.examine_next-found.ensures c.enum_told-1.given.1
 
-returns-2 : tie.Need-returns-2
-returns-2 c = day-taken c.before.before.before.args.t1 _ c.before.before.examine-next.ensures c.enum-told2.given.1
+returns-2 : tie.Need-returns-in-Accepted
+returns-2 c = day-taken c.before.before.before.args.t1 _ c.before.before.examine_next-found.ensures c.enum_told-in-Accepted-1.given.1
 
-pub take-in-spec : {M : Type 1} → statement M
-take-in-spec =
+pub take_in_spec : {M : Type 1} → statement M
+take_in_spec =
     tie.close
-    (tie.spec
-    examine-next-requires
-    enum_told
-    enum-told-2
-    mul-day
-    element-set-from-day
-    add-self
-    returns
-    returns-2)
+    (tie.spec examine-next-requires enum_told enum-told-2 mul-day element-set-from-day add-self returns returns-2)

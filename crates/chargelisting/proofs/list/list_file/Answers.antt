@@ -1,0 +1,40 @@
+-- A refused file is refused by its own fault; a day that is read is sound, and listed.
+use Prim.Native.Nat.{ℕ}
+use lib.ListN.{length-replicate}
+use Rattle.dayfile.proofs.Reaching.{full_room}
+use Rattle.listings.proofs.Listing.{lists-refusal, part_sound, part-inside, part_long, lists-day}
+use Rattle.chargelisting.specs.ChargesText.{charges_text}
+use Rattle.chargelisting.proofs.list.list_file.Goals as goal
+
+pub slice_bounds-numbers-end : goal.slice_bounds-numbers-end
+slice_bounds-numbers-end c =
+    let given = c.reading-in-Read-1.given in
+    rw c.numbers_of-count.ensures.0
+    (part-inside c.args.file.now _ _ given.0.0
+    (rw given.1 at c.read_day-reading.ensures) c.read_day-reading.auto.1.0)
+
+pub slice_bounds-list_day-end : goal.slice_bounds-list_day-end
+slice_bounds-list_day-end c =
+    let given = c.reading-in-Read-1.given in
+    rw c.numbers_of-count.ensures.0
+    (part_long c.args.file.now _ _ given.0.0
+    (rw given.1 at c.read_day-reading.ensures) c.read_day-reading.auto.1.0)
+
+pub list_day-requires : goal.list_day-requires
+list_day-requires c =
+    let given = c.reading-in-Read-1.given in
+    rw c.numbers_of-count.ensures.0
+    (part_sound c.args.file.now _ _ given.0.0
+    (rw given.1 at c.read_day-reading.ensures))
+
+pub returns-in-Refused : goal.returns-in-Refused
+returns-in-Refused c =
+    lists-refusal _ _ _ (length-replicate {A = ℕ} full_room 0) _
+    (rw c.reading-1.given.1 at c.read_day-reading.ensures) _ _
+
+pub returns-in-Read : goal.returns-in-Read
+returns-in-Read c =
+    let given = c.reading-in-Read-1.given in
+    lists-day c.args.file.now _ _ given.0.0
+    (rw given.1 at c.read_day-reading.ensures) (charges_text c.args.rate)
+    (rw c.numbers_of-count.ensures.0 at c.list_day.ensures)

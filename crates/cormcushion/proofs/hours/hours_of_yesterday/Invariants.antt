@@ -1,0 +1,11 @@
+-- What is written so far are the first hours, so at the end they are all of them.
+use Prim.Native.Nat.{◌-◌}
+use Rattle.columns.specs.Column.{col}
+use Rattle.daymeters.proofs.Writing.{Writing}
+use Rattle.cormcushion.proofs.hours.hours_of_yesterday.Given as goal
+
+abbrev pub invariant-loop-hour : goal.invariant-loop-hour
+invariant-loop-hour l = Writing l.initial.hours 11 (col l.figures) l.hour l.hours
+
+abbrev pub decreases-loop-hour : goal.decreases-loop-hour
+decreases-loop-hour l = 11 - l.hour

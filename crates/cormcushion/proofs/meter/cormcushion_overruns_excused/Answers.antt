@@ -1,0 +1,6 @@
+-- The day's overruns are the routine's, and they are priced.
+
+use Rattle.cormcushion.proofs.meter.cormcushion_overruns_excused.Goals as goal
+
+pub returns : goal.returns
+returns c = rw c.overruns_of-over.ensures at c.price_rated.ensures

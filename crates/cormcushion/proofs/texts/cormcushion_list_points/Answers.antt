@@ -1,0 +1,7 @@
+-- The listing, packed.
+
+use Rattle.cormcushion.proofs.texts.cormcushion_list_points.Goals as goal
+
+pub returns : goal.returns
+returns c =
+    record { listing = _; answers = c.list_points.ensures; packs = c.of_listing.ensures }

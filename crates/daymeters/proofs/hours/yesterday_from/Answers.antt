@@ -1,0 +1,14 @@
+use Prim.Native.Nat.{◌-◌}
+use borrow.Author.Rules.{rules}
+use Rattle.daymeters.proofs.Writing.{writing_none, writing_next, written}
+use Rattle.daymeters.proofs.hours.yesterday_from.Goals as goal
+
+pub loop-hour-init : goal.loop-hour-init
+loop-hour-init c = writing_none _ _ _
+
+pub loop-hour-preserved : goal.loop-hour-preserved
+loop-hour-preserved c =
+    writing_next _ _ _ _ _ c.loop-hour.invariant _ c.loop-hour-test.true c.megajoules_at.ensures
+
+pub returns : goal.returns
+returns c = written _ _ _ _ _ c.loop-hour.invariant (search rules) c.loop-hour-test.false

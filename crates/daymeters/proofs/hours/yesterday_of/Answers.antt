@@ -1,0 +1,10 @@
+-- The hours are read where the tests accept.
+use Rattle.daymeters.proofs.Answers.{zeros-refused, figures-accepted}
+use Rattle.daymeters.proofs.hours.yesterday_of.Goals as goal
+
+pub returns-in-Refused : goal.returns-in-Refused
+returns-in-Refused c = zeros-refused c.check_row-found.ensures _ _ c.enum_told-1.given.1
+
+pub returns-in-Accepted : goal.returns-in-Accepted
+returns-in-Accepted c =
+    figures-accepted c.check_row-found.ensures _ _ c.enum_told-in-Accepted-1.given.1 c.yesterday_from.ensures

@@ -1,0 +1,12 @@
+-- In no place that the search has passed is the number above the other.
+use Prim.Native.Nat.{◌+◌, ◌-◌}
+use lib.Dec.{ltb}
+use Rattle.columns.specs.Column.{col}
+use Rattle.columns.proofs.Firsts.{Searched}
+use Rattle.dayrows.proofs.caps.all_under.Given as goal
+
+abbrev pub invariant-loop-place : goal.invariant-loop-place
+invariant-loop-place l = Searched (λ i. ltb (col l.numbers (l.other + i)) (col l.numbers (l.one + i))) l.many l.place
+
+abbrev pub decreases-loop-place : goal.decreases-loop-place
+decreases-loop-place l = l.many - l.place

@@ -1,0 +1,9 @@
+-- A day's rows are looked at for their caps, and a list's entries for their side.
+
+use Rattle.dayrows.proofs.is_of_source.Goals as goal
+
+pub returns-in-File : goal.returns-in-File
+returns-in-File c = rw c.enum_told-1.given.1 c.is_capped.ensures
+
+pub returns-in-Side : goal.returns-in-Side
+returns-in-Side c = rw (c.source-1.given.1, ← c.number_of_lem.ensures)

@@ -1,0 +1,6 @@
+-- A day's names are looked up, and a list's are not.
+
+use Rattle.dayrows.proofs.names_are_known.Goals as goal
+
+pub returns-in-File : goal.returns-in-File
+returns-in-File c = rw c.enum_told-1.given.1 c.is_named.ensures

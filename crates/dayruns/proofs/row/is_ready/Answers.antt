@@ -1,0 +1,23 @@
+-- A broken field is not ready; a whole one is where its row has room.
+use mathlib.Core.Path.{ap, sym, ◌∙◌}
+use mathlib.Core.Bool.{true≢false}
+use Prim.Native.Nat.{◌+◌}
+use native.Mathlib.Omega.{arith}
+use borrow.Author.Tests.{leb-true}
+use Rattle.dayformat.proofs.Small.{small}
+use Rattle.dayruns.proofs.row.is_ready.Goals as goal
+
+pub returns-then-breaks-ne0 : goal.returns-then-breaks-ne0
+returns-then-breaks-ne0 c = λ yes. absurd (true≢false (sym yes))
+
+pub overflow_add-result : goal.overflow_add-result
+overflow_add-result c =
+    omega (arith, c.requires, (small c.args.tag).columns, ap (λ c. c.columns) c.form_of.ensures)
+
+pub returns : goal.returns
+returns c =
+    λ yes.
+    let fits = leb-true (c.args.to + c.form_of.result.columns) c.args.room yes in (
+      sym c.breaks.ensures ∙ c.if-breaks-ne0.false,
+      omega (arith, fits, ap (λ c. c.columns) c.form_of.ensures),
+    )

@@ -1,0 +1,29 @@
+use mathlib.Core.Path.{◌∙◌}
+use mathlib.Core.Bool.{true}
+use Prim.Native.Nat.{◌-◌, ◌≤◌}
+use native.Mathlib.Nat.{le_antisymm}
+use native.Mathlib.Omega.{arith}
+use borrow.Author.Tests.{le-ltb}
+use Rattle.columns.proofs.Firsts.{searched_none, searched_more, ends, kept-passed}
+use Rattle.metered.specs.Excused.{both_have}
+use Rattle.metered.proofs.excused.excused_keep.Goals as goal
+
+pub loop-hour-init : goal.loop-hour-init
+loop-hour-init c = (λ e. searched_none _ _, c.lesser-hour-end.ensures)
+
+pub loop-hour-preserved : goal.loop-hour-preserved
+loop-hour-preserved c =
+    let now = c.loop-hour in (
+      λ e.
+          let kept = kept-passed c.if-metered-hour.branch e in
+          searched_more _ _ _ (now.invariant.0 kept.1) (omega (arith, c.loop-hour-test.true, now.invariant.1)) (le-ltb _ _ kept.0.left),
+      now.invariant.1,
+    )
+
+pub returns : goal.returns
+returns c = λ e.
+    let now = c.loop-hour in
+    let args = c.args in
+    let S = now.invariant.0 e in
+    let all : both_have args.metered.now args.excused.now ≤ now.hour = omega (arith, c.loop-hour-test.false, now.invariant.1) in
+    le_antisymm all S.inside ∙ ends _ _ _ S all

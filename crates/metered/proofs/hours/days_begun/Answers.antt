@@ -1,0 +1,20 @@
+use mathlib.Core.Path.{◌∙◌}
+use Prim.Native.Nat.{◌-◌}
+use borrow.Author.Rules.{rules}
+use lib.ListN.{replicate}
+use Rattle.columns.proofs.Lists.{filling_none, filling_next}
+use Rattle.metered.specs.Hours.{bare_hours}
+use Rattle.metered.proofs.Rows.{written, figure_at, length-figures}
+use Rattle.metered.proofs.hours.days_begun.Goals as goal
+
+pub loop-hour-init : goal.loop-hour-init
+loop-hour-init c = (search rules, filling_none _ _)
+
+pub loop-hour-preserved : goal.loop-hour-preserved
+loop-hour-preserved c = (search rules, filling_next _ _ _ _ _ c.loop-hour.invariant.1 (figure_at c.args.t1 _))
+
+pub returns : goal.returns
+returns c =
+    let yesterday = c.args.t1 in
+    written (replicate 35 0) (bare_hours yesterday) 11 (length-figures yesterday ∙ c.well-formed.0.1.0.1) c.loop-hour.invariant.1
+    c.loop-hour.invariant.0 c.loop-hour-test.false

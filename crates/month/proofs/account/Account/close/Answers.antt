@@ -1,0 +1,11 @@
+-- Where the statement stands in the block the account is empty, else it is as it was.
+use Rattle.month.proofs.Closing.{kept_open, closed}
+use Rattle.month.proofs.account.Account.close.Goals as goal
+
+pub returns-in-Refused : goal.returns-in-Refused
+returns-in-Refused c =
+    kept_open _ c.list_account-listing.ensures c.enum_told-1.given.1
+
+pub returns-in-Text : goal.returns-in-Text
+returns-in-Text c =
+    closed _ c.list_account-listing.ensures c.enum_told-in-Text-1.given.1 c.empty-self.ensures

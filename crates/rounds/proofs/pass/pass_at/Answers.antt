@@ -1,0 +1,36 @@
+use mathlib.Core.Logic.{⊎_elim}
+use Prim.Native.Nat.{◌-◌}
+use native.Mathlib.Omega.{arith}
+use Rattle.columns.proofs.Sums.{adding_none, adding_next, adding_bound, adding_all}
+use Rattle.rounds.proofs.pass.pass_at.Goals as goal
+
+pub loop-row-init : goal.loop-row-init
+loop-row-init c = (adding_none _ _, omega arith)
+
+pub share_at-share-requires : goal.share_at-share-requires
+share_at-share-requires c =
+    (c.requires.0.weights c.loop-row.row c.loop-row-test.true, c.requires.1)
+
+pub overflow_add-total : goal.overflow_add-total
+overflow_add-total c =
+    let rows = c.requires.0 in
+    let now = c.loop-row in
+    omega (
+      arith,
+      adding_bound _ _ now.invariant.0 1_000_000 (λ i l. omega (arith, rows.needs i l)),
+      rows.needs now.row c.loop-row-test.true,
+    )
+
+pub overflow_add-short : goal.overflow_add-short
+overflow_add-short c =
+    omega (arith, c.requires.0.weights c.loop-row.row c.loop-row-test.true)
+
+pub loop-row-preserved : goal.loop-row-preserved
+loop-row-preserved c =
+    let weight = c.requires.0.weights c.loop-row.row c.loop-row-test.true in (
+      adding_next _ _ c.loop-row.invariant.0 c.loop-row-test.true c.share_at-share.ensures,
+      ⊎_elim (λ w. omega arith) (λ w. omega arith) c.if-share-need.branch,
+    )
+
+pub returns : goal.returns
+returns c = adding_all _ _ c.loop-row.invariant.0 c.loop-row-test.false

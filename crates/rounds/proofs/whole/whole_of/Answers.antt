@@ -1,0 +1,33 @@
+use Prim.Native.Nat.{◌-◌}
+use native.Mathlib.Omega.{arith}
+use Rattle.columns.proofs.Sums.{adding_none, adding_next, adding_bound, adding_all}
+use Rattle.rounds.proofs.whole.whole_of.Goals as goal
+
+pub loop-row-init : goal.loop-row-init
+loop-row-init c = (adding_none _ _, omega arith)
+
+pub share_at_top-most-requires : goal.share_at_top-most-requires
+share_at_top-most-requires c =
+    c.requires.needs c.loop-row.row c.loop-row-test.true
+
+pub overflow_add-most : goal.overflow_add-most
+overflow_add-most c =
+    let rows = c.requires in
+    let now = c.loop-row in
+    omega (
+      arith,
+      adding_bound _ _ now.invariant.0 1_000_000 (λ i l. omega (arith, rows.needs i l)),
+      rows.needs now.row c.loop-row-test.true,
+    )
+
+pub overflow_add-weight : goal.overflow_add-weight
+overflow_add-weight c =
+    omega (arith, c.requires.weights c.loop-row.row c.loop-row-test.true)
+
+pub loop-row-preserved : goal.loop-row-preserved
+loop-row-preserved c =
+    let small = c.requires.weights c.loop-row.row c.loop-row-test.true in
+    (adding_next _ _ c.loop-row.invariant.0 c.loop-row-test.true c.share_at_top-most.ensures, omega arith)
+
+pub returns : goal.returns
+returns c = adding_all _ _ c.loop-row.invariant.0 c.loop-row-test.false

@@ -1,0 +1,11 @@
+-- The text is counted before it is laid.
+use Rattle.lines.proofs.Answers.{too_long, fits}
+use Rattle.sharelisting.proofs.list.lay_shares.Goals as goal
+
+pub returns-then-room-size : goal.returns-then-room-size
+returns-then-room-size c =
+    too_long c.put_shares-size.ensures _ c.plain.ensures c.if-room-size.true
+
+pub returns : goal.returns
+returns c =
+    fits c.put_shares-size.ensures c.if-room-size.false c.put_shares.ensures

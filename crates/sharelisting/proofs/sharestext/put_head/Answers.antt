@@ -1,0 +1,17 @@
+-- Words and figures in turn make the line.
+use native.Mathlib.Omega.{arith}
+use Rattle.sharelisting.proofs.HeadLine.{head-laid}
+use Rattle.sharelisting.proofs.sharestext.put_head.Goals as goal
+
+pub returns : goal.returns
+returns c = (
+  head-laid _ _ _ c.put_labelled-size.ensures.0 c.put_labelled-size-2.ensures.0 c.put_word-size.ensures
+      c.put_line.ensures.0,
+  omega (
+    arith,
+    c.put_labelled-size.ensures.1,
+    c.put_labelled-size-2.ensures.1,
+    c.put_word-size.ensures.counts,
+    c.put_line.ensures.1,
+  ),
+)

@@ -1,0 +1,30 @@
+use Prim.Native.Nat.{◌-◌}
+use native.Mathlib.Omega.{arith}
+use Rattle.lines.proofs.Texts.{texts_none, texts_more, texts_all, laid-long}
+use Rattle.sharelisting.proofs.sharestext.put_shippers.Goals as goal
+
+pub loop-row-init : goal.loop-row-init
+loop-row-init c = (omega arith, omega arith, texts_none _)
+
+pub loop-row-preserved : goal.loop-row-preserved
+loop-row-preserved c =
+    let now = c.loop-row in (
+      omega (arith, c.loop-row-test.true),
+      omega (arith, now.invariant.1, c.put_line-size.ensures.1),
+      texts_more _ now.invariant.2
+          (rw (
+            ← c.number_at.ensures,
+            ← c.gigajoules_at.ensures,
+            ← c.gigajoules_at-in-loop-row.ensures,
+            ← c.gigajoules_at-in-loop-row-2.ensures,
+          )
+          c.put_line-size.ensures.0),
+    )
+
+pub shape_of-text : goal.shape_of-text
+shape_of-text c = laid-long c.loop-row.invariant.2
+
+pub returns : goal.returns
+returns c =
+    let now = c.loop-row in
+    (texts_all _ now.invariant.0 c.loop-row-test.false now.invariant.2, omega (arith, now.invariant.0, now.invariant.1, c.requires.0))

@@ -1,0 +1,28 @@
+use mathlib.Core.Path.{refl, ◌∙◌}
+use mathlib.Core.Bool.{true}
+use Prim.Native.Nat.{◌-◌, ◌≤◌}
+use native.Mathlib.Nat.{le_antisymm}
+use native.Mathlib.Omega.{arith}
+use borrow.Author.Tests.{le-ltb}
+use lib.ListN.{length}
+use Rattle.columns.proofs.Firsts.{searched_none, searched_more, ends, kept-passed}
+use Rattle.units.proofs.above.megajoules_keep.Goals as goal
+
+pub loop-row-init : goal.loop-row-init
+loop-row-init c = (λ e. searched_none _ _, refl)
+
+pub loop-row-preserved : goal.loop-row-preserved
+loop-row-preserved c =
+    let now = c.loop-row in (
+      λ e.
+          let kept = kept-passed c.if-most-figures.branch e in
+          searched_more _ _ _ (now.invariant.0 kept.1) (omega (arith, c.loop-row-test.true, now.invariant.1)) (le-ltb _ _ kept.0.left),
+      now.invariant.1,
+    )
+
+pub returns : goal.returns
+returns c = λ e.
+    let now = c.loop-row in
+    let S = now.invariant.0 e in
+    let all : length c.args.figures.now ≤ now.row = omega (arith, c.loop-row-test.false, now.invariant.1) in
+    le_antisymm all S.inside ∙ ends _ _ _ S all
