@@ -3,7 +3,7 @@
 use Rattle.dayrows.proofs.is_of_source.Goals as goal
 
 pub returns-in-File : goal.returns-in-File
-returns-in-File c = rw c.enum_told-1.given.1 c.is_capped.ensures
+returns-in-File c = rw c.in-File.is c.is_capped.ensures
 
 pub returns-in-Side : goal.returns-in-Side
-returns-in-Side c = rw (c.source-1.given.1, ← c.number_of_lem.ensures)
+returns-in-Side c = rw (c.in-Side.is, ← c.number_of_lem.ensures)

@@ -3,4 +3,4 @@
 use Rattle.dayrows.proofs.names_are_known.Goals as goal
 
 pub returns-in-File : goal.returns-in-File
-returns-in-File c = rw c.enum_told-1.given.1 c.is_named.ensures
+returns-in-File c = rw c.in-File.is c.is_named.ensures

@@ -7,14 +7,14 @@ use Rattle.dayshares.proofs.share_day.Goals as goal
 
 pub share_accepted-requires : goal.share_accepted-requires
 share_accepted-requires c =
-    ready _ _ _ _ (accepting _ _ _ _ (sym c.examine_day-found.ensures ∙ c.enum_told-1.given.1))
+    ready _ _ _ _ (accepting _ _ _ _ (sym c.examine_day-found.ensures ∙ c.in-Accepted.is))
 
 pub returns-in-Refused : goal.returns-in-Refused
 returns-in-Refused c =
     refuses _ c.args.firm-1.now c.args.auction-1.now c.args.lower_tier-1.now _
-    (sym c.examine_day-found.ensures ∙ c.found-1.given.1)
+    (sym c.examine_day-found.ensures ∙ c.in-Refused.is)
 
 pub returns-in-Accepted : goal.returns-in-Accepted
 returns-in-Accepted c =
     shares_out _ c.args.firm-1.now c.args.auction-1.now c.args.lower_tier-1.now _ _ _ _
-    (sym c.examine_day-found.ensures ∙ c.enum_told-1.given.1) c.share_accepted.ensures
+    (sym c.examine_day-found.ensures ∙ c.in-Accepted.is) c.share_accepted.ensures

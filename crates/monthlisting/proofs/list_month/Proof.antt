@@ -27,7 +27,7 @@ returns : tie.Need-returns-in-Refused
 returns c =
     let found = c.before in
     let tests = found.before.before in
-    some-refused _ tests.before.before.hand_in-handed.ensures (tested tests) _ found.found-1.given.1
+    some-refused _ tests.before.before.hand_in-handed.ensures (tested tests) _ found.in-Refused.is
 
 enum_told : tie.Need-enum_told-1
 enum_told c = search rules
@@ -43,7 +43,7 @@ returns-2 c =
     let closed = c.before.before in
     let told = closed.before.before in
     let tests = told.before.before in
-    all_listed _ tests.before.before.hand_in-handed.ensures (tested tests) told.enum_told-1.given.1 closed.close.ensures
+    all_listed _ tests.before.before.hand_in-handed.ensures (tested tests) told.in_default.is closed.close.ensures
 
 pub list_month_spec : {M : Type 1} → statement M
 list_month_spec =

@@ -5,11 +5,11 @@ use Rattle.numbershares.proofs.share_numbers.Goals as goal
 
 pub share_columns-requires : goal.share_columns-requires
 share_columns-requires c =
-    sym c.check_figures-found.ensures ∙ c.enum_told-1.given.1
+    sym c.check_figures-found.ensures ∙ c.in-Accepted.is
 
 pub returns-in-Refused : goal.returns-in-Refused
-returns-in-Refused c = figures_refuse _ _ _ _ _ c.check_figures-found.ensures _ c.found-1.given.1
+returns-in-Refused c = figures_refuse _ _ _ _ _ c.check_figures-found.ensures _ c.in-Refused.is
 
 pub returns-in-Accepted : goal.returns-in-Accepted
 returns-in-Accepted c =
-    table_decides _ _ _ _ _ c.check_figures-found.ensures c.enum_told-1.given.1 c.share_columns.ensures
+    table_decides _ _ _ _ _ c.check_figures-found.ensures c.in-Accepted.is c.share_columns.ensures

@@ -7,17 +7,17 @@ use Rattle.rounds.proofs.share_round.Goals as goal
 
 pub level_of-level-requires : goal.level_of-level-requires
 level_of-level-requires c =
-    (accepting _ _ _ _ (sym c.examine-found.ensures ∙ c.enum_told-1.given.1)).rows
+    (accepting _ _ _ _ (sym c.examine-found.ensures ∙ c.in-Accepted.is)).rows
 
 pub fill-total-requires : goal.fill-total-requires
 fill-total-requires c =
-    let a = accepting _ _ _ _ (sym c.examine-found.ensures ∙ c.enum_told-1.given.1) in
+    let a = accepting _ _ _ _ (sym c.examine-found.ensures ∙ c.in-Accepted.is) in
     (a.rows, rw c.level_of-level.ensures (level_is _ _ _ _).capped, a.fits)
 
 pub returns-in-Refused : goal.returns-in-Refused
-returns-in-Refused c = refuses _ _ _ _ _ (sym c.examine-found.ensures ∙ c.found-1.given.1)
+returns-in-Refused c = refuses _ _ _ _ _ (sym c.examine-found.ensures ∙ c.in-Refused.is)
 
 pub returns-in-Accepted : goal.returns-in-Accepted
 returns-in-Accepted c =
-    shares_out _ _ _ _ _ _ _ (sym c.examine-found.ensures ∙ c.enum_told-1.given.1) c.level_of-level.ensures
+    shares_out _ _ _ _ _ _ _ (sym c.examine-found.ensures ∙ c.in-Accepted.is) c.level_of-level.ensures
     c.fill-total.ensures

@@ -13,7 +13,7 @@ returns-in-Refused c =
       c.meter_yesterday-yesterday.ensures,
       c.meter_hours-hours.ensures,
     ) at
-    c.overruns_of_day-day.ensures) c.enum_told-1.given.1
+    c.overruns_of_day-day.ensures) c.in-Refused.is
 
 pub returns-in-Over : goal.returns-in-Over
 returns-in-Over c =
@@ -26,4 +26,4 @@ returns-in-Over c =
       c.meter_yesterday-yesterday.ensures,
       c.meter_hours-hours.ensures,
     ) at
-    c.overruns_of_day-day.ensures) c.day-1.given.1
+    c.overruns_of_day-day.ensures) c.in-Over.is

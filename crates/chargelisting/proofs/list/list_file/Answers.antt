@@ -30,7 +30,7 @@ list_day-requires c =
 pub returns-in-Refused : goal.returns-in-Refused
 returns-in-Refused c =
     lists-refusal _ _ _ (length-replicate {A = ℕ} full_room 0) _
-    (rw c.reading-1.given.1 at c.read_day-reading.ensures) _ _
+    (rw c.in-Refused.is at c.read_day-reading.ensures) _ _
 
 pub returns-in-Read : goal.returns-in-Read
 returns-in-Read c =

@@ -3,7 +3,7 @@
 use Rattle.cormcushion.proofs.answers.of_round.Goals as goal
 
 pub returns-in-Refused : goal.returns-in-Refused
-returns-in-Refused c = rw c.round-1.given.1 c.refused.ensures
+returns-in-Refused c = rw c.in-Refused.is c.refused.ensures
 
 pub returns-in-Shared : goal.returns-in-Shared
-returns-in-Shared c = rw c.round-in-Shared-1.given.1 c.accepted.ensures
+returns-in-Shared c = rw c.in-Shared.is c.accepted.ensures

@@ -3,4 +3,4 @@
 use Rattle.cormcushion.proofs.day.put_day.Goals as goal
 
 pub returns-in-Read : goal.returns-in-Read
-returns-in-Read c = rw c.reading-1.given.1 c.figures_of.ensures
+returns-in-Read c = rw c.in-Read.is c.figures_of.ensures

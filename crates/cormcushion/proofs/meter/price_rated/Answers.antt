@@ -5,9 +5,9 @@ use Rattle.cormcushion.proofs.meter.price_rated.Goals as goal
 
 pub returns-in-Refused : goal.returns-in-Refused
 returns-in-Refused c =
-    refused-rate (sym c.keep-found.ensures ∙ c.found-1.given.1) c.refused.ensures
+    refused-rate (sym c.keep-found.ensures ∙ c.in-Refused.is) c.refused.ensures
 
 pub returns-in-Accepted : goal.returns-in-Accepted
 returns-in-Accepted c =
-    let is = sym c.keep-found.ensures ∙ c.enum_told-1.given.1 in
+    let is = sym c.keep-found.ensures ∙ c.in-Accepted.is in
     charged is c.price_day.ensures.0 c.price_day.ensures.1

@@ -5,11 +5,11 @@ use Rattle.daymeters.proofs.Answers.{meter-refused, meter-given}
 use Rattle.daymeters.proofs.figures.meter_figures.Goals as goal
 
 pub figures_of-requires : goal.figures_of-requires
-figures_of-requires c = row-accepted _ _ _ _ (sym c.check_meter-found.ensures ∙ c.enum_told-1.given.1)
+figures_of-requires c = row-accepted _ _ _ _ (sym c.check_meter-found.ensures ∙ c.in-Accepted.is)
 
 pub returns-in-Refused : goal.returns-in-Refused
-returns-in-Refused c = meter-refused _ _ _ c.check_meter-found.ensures c.found-1.given.1
+returns-in-Refused c = meter-refused _ _ _ c.check_meter-found.ensures c.in-Refused.is
 
 pub returns-in-Accepted : goal.returns-in-Accepted
 returns-in-Accepted c =
-    meter-given _ _ _ c.check_meter-found.ensures c.enum_told-1.given.1 c.figures_of.ensures
+    meter-given _ _ _ c.check_meter-found.ensures c.in-Accepted.is c.figures_of.ensures

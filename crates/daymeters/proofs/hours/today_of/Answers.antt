@@ -3,9 +3,9 @@ use Rattle.daymeters.proofs.Answers.{zeros-refused, figures-accepted}
 use Rattle.daymeters.proofs.hours.today_of.Goals as goal
 
 pub returns-in-Refused : goal.returns-in-Refused
-returns-in-Refused c = zeros-refused c.check_row-found.ensures _ _ c.enum_told-1.given.1
+returns-in-Refused c = zeros-refused c.check_row-found.ensures _ _ c.in-Refused.is
 
 pub returns-in-Accepted : goal.returns-in-Accepted
 returns-in-Accepted c =
-    figures-accepted c.check_row-found.ensures _ _ c.enum_told-in-Accepted-1.given.1
+    figures-accepted c.check_row-found.ensures _ _ c.in-Accepted.is
     (rw (c.side_from-delivered.ensures, c.side_from-received.ensures))

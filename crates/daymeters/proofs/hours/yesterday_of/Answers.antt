@@ -3,8 +3,8 @@ use Rattle.daymeters.proofs.Answers.{zeros-refused, figures-accepted}
 use Rattle.daymeters.proofs.hours.yesterday_of.Goals as goal
 
 pub returns-in-Refused : goal.returns-in-Refused
-returns-in-Refused c = zeros-refused c.check_row-found.ensures _ _ c.enum_told-1.given.1
+returns-in-Refused c = zeros-refused c.check_row-found.ensures _ _ c.in-Refused.is
 
 pub returns-in-Accepted : goal.returns-in-Accepted
 returns-in-Accepted c =
-    figures-accepted c.check_row-found.ensures _ _ c.enum_told-in-Accepted-1.given.1 c.yesterday_from.ensures
+    figures-accepted c.check_row-found.ensures _ _ c.in-Accepted.is c.yesterday_from.ensures

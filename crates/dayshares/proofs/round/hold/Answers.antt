@@ -4,8 +4,8 @@ use Rattle.dayshares.proofs.round.hold.Goals as goal
 
 pub returns-in-Shared : goal.returns-in-Shared
 returns-in-Shared c =
-    holds _ _ _ _ c.requires _ _ (rw c.round-1.given.1 at c.share_round-round.ensures)
+    holds _ _ _ _ c.requires _ _ (rw c.in-Shared.is at c.share_round-round.ensures)
 
 pub returns-in-Refused : goal.returns-in-Refused
 returns-in-Refused c =
-    never _ _ _ _ c.requires _ _ (rw c.enum_told-1.given.1 at c.share_round-round.ensures)
+    never _ _ _ _ c.requires _ _ (rw c.in-Refused.is at c.share_round-round.ensures)

@@ -7,12 +7,12 @@ loop-row-init c = handing_none _ c.empty-account.ensures
 
 pub returns-in-Refused : goal.returns-in-Refused
 returns-in-Refused c =
-    handing_stops _ c.loop-row.invariant c.loop-row-test.true c.take_row-taken.ensures c.enum_told-1.given.1
+    handing_stops _ c.loop-row.invariant c.loop-row-test.true c.take_row-taken.ensures c.in-Refused.is
     c.placed.ensures
 
 pub loop-row-preserved : goal.loop-row-preserved
 loop-row-preserved c =
-    handing_next _ c.loop-row.invariant c.loop-row-test.true c.take_row-taken.ensures c.enum_told-in_default-1.given.1
+    handing_next _ c.loop-row.invariant c.loop-row-test.true c.take_row-taken.ensures c.in_default.is
 
 pub returns : goal.returns
 returns c = handing_all _ c.loop-row.invariant c.loop-row-test.false

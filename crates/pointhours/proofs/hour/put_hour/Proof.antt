@@ -99,7 +99,7 @@ returns c =
       hour-refused (start_of made).args.capacity.0 (entries_in (part_of made)) (shipper_in (part_of made))
           (entitlement_in (part_of made)) (mdq-of made) (few made) (entitlements-front made) (mdqs-front made)
           (length-replicate {A = ℕ} most_entries 0)
-          shared.share_hour-hour.ensures told.hour-1.given.1 put.put_refusal.ensures.0,
+          shared.share_hour-hour.ensures told.in-Refused.is put.put_refusal.ensures.0,
       omega (arith, put.put_refusal.ensures.1),
     )
 
@@ -115,7 +115,7 @@ returns-2 c =
       hour-shared (start_of made).args.capacity.0 (entries_in (part_of made)) (shipper_in (part_of made))
           (entitlement_in (part_of made)) (mdq-of made) (few made) (entitlements-front made) (mdqs-front made)
           (length-replicate {A = ℕ} most_entries 0)
-          shared.share_hour-hour.ensures told.enum_told-1.given.1
+          shared.share_hour-hour.ensures told.in-Shared.is
           (laid_from (start_of made).args.at put.before.lesser.ensures put.put_shares.ensures.0),
       put.put_shares.ensures.1,
     )

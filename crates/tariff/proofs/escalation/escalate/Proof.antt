@@ -61,15 +61,15 @@ enum_told c = search rules
 cast-t24 : tie.Need-overflow_cast-result
 cast-t24 c =
     let rounded = c.before.before.before.before.before.before.before.before.before.before in
-    omega (arith, rounded.half_up-escalated.ensures, escalated_within _ _ _ (tested c.before.before ∙ c.enum_told-1.given.1))
+    omega (arith, rounded.half_up-escalated.ensures, escalated_within _ _ _ (tested c.before.before ∙ c.in-Accepted.is))
 
 returns : tie.Need-returns-in-Refused
-returns c = rw (tested c.before.before.before ∙ c.before.found-1.given.1)
+returns c = rw (tested c.before.before.before ∙ c.before.in-Refused.is)
 
 returns-2 : tie.Need-returns-in-Accepted
 returns-2 c =
     let rounded = c.before.before.before.before.before.before.before.before.before.before in
-    rw (rounded.half_up-escalated.ensures, tested c.before.before ∙ c.enum_told-1.given.1)
+    rw (rounded.half_up-escalated.ensures, tested c.before.before ∙ c.in-Accepted.is)
 
 pub escalate_spec : {M : Type 1} → statement M
 escalate_spec =

@@ -4,12 +4,12 @@ use Rattle.usegas.proofs.fuel.imbalance_fuel.Goals as goal
 
 pub returns-in-Refused : goal.returns-in-Refused
 returns-in-Refused c =
-    rw (sym c.examine-found.ensures ∙ c.found-1.given.1)
+    rw (sym c.examine-found.ensures ∙ c.in-Refused.is)
 
 pub returns-in-Accepted : goal.returns-in-Accepted
 returns-in-Accepted c =
     rw (
-      sym c.examine-found.ensures ∙ c.enum_told-1.given.1,
+      sym c.examine-found.ensures ∙ c.in-Accepted.is,
       c.fuel.ensures,
       c.greater-imbalance.ensures,
       c.positive.ensures,

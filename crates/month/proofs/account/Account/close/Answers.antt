@@ -4,8 +4,8 @@ use Rattle.month.proofs.account.Account.close.Goals as goal
 
 pub returns-in-Refused : goal.returns-in-Refused
 returns-in-Refused c =
-    kept_open _ c.list_account-listing.ensures c.enum_told-1.given.1
+    kept_open _ c.list_account-listing.ensures c.in-Refused.is
 
 pub returns-in-Text : goal.returns-in-Text
 returns-in-Text c =
-    closed _ c.list_account-listing.ensures c.enum_told-in-Text-1.given.1 c.empty-self.ensures
+    closed _ c.list_account-listing.ensures c.in-Text.is c.empty-self.ensures

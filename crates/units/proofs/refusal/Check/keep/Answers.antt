@@ -4,12 +4,12 @@ use Rattle.units.proofs.refusal.Check.keep.Goals as goal
 
 pub returns-then-kept : goal.returns-then-kept
 unfolding ◌then◌ keep
-returns-then-kept c = rw (c.enum_told-1.given.1, c.if-kept.true)
+returns-then-kept c = rw (c.in-Accepted.is, c.if-kept.true)
 
 pub returns-in-Refused : goal.returns-in-Refused
 unfolding ◌then◌ keep
-returns-in-Refused c = rw c.self-1.given.1
+returns-in-Refused c = rw c.in-Refused.is
 
 pub returns-else-kept : goal.returns-else-kept
 unfolding ◌then◌ keep
-returns-else-kept c = rw (c.enum_told-1.given.1, c.if-kept.false, c.plain.ensures)
+returns-else-kept c = rw (c.in-Accepted.is, c.if-kept.false, c.plain.ensures)

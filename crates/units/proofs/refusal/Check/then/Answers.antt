@@ -4,8 +4,8 @@ use Rattle.units.proofs.refusal.Check.then.Goals as goal
 
 pub returns-in-Refused : goal.returns-in-Refused
 unfolding ◌then◌
-returns-in-Refused c = rw c.self-1.given.1
+returns-in-Refused c = rw c.in-Refused.is
 
 pub returns-in-Accepted : goal.returns-in-Accepted
 unfolding ◌then◌
-returns-in-Accepted c = rw c.enum_told-1.given.1
+returns-in-Accepted c = rw c.in-Accepted.is
