@@ -9,10 +9,10 @@ use Rattle.bigendian.proofs.Reading.{Turn, reading-none, reading-next, reading-r
 use Rattle.bigendian.proofs.number_at.Statement.{statement}
 use Rattle.bigendian.proofs.number_at.Tie as tie
 
-abbrev invariant-loop : tie.invariant-loop
+abbrev invariant-loop : tie.invariant-loop-place
 invariant-loop file at width count number₀ place₀ number place = (place ≤ count) × (number ≡ value (take place (drop at file)))
 
-abbrev decreases-loop : tie.decreases-loop
+abbrev decreases-loop : tie.decreases-loop-place
 decreases-loop file at width count number₀ place₀ number place = count - place
 
 abbrev turn : tie.In-loop-place invariant-loop decreases-loop → Turn

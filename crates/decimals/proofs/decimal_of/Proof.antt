@@ -26,7 +26,7 @@ found-is c =
 within : (c : tie.In-Accepted)
     → value c.before.before.before.before.before.before.before.before.args.word.now
     ≤ c.before.before.before.before.before.before.before.before.args.most
-within c = spells_within _ _ (sym (found-is c.before.before) ∙ c.in-Accepted.is)
+within c = spells_within _ _ (sym (found-is c.before.before) ∙ c.enum_told-1.given.1)
 
 number_is : (c : tie.In-Accepted)
     → c.before.before.before.before.before.before.value_up_to-number.result
@@ -60,12 +60,12 @@ cast-t17 c = search (rules, within c, number_is c)
 returns : tie.Need-returns-in-Refused
 returns c =
     let found = c.before.before.before in
-    rw (← found-is found, c.before.in-Refused.is)
+    rw (← found-is found, c.before.found-1.given.1)
 
 returns-2 : tie.Need-returns-in-Accepted
 returns-2 c =
     let found = c.before.before in
-    rw (← found-is found, c.in-Accepted.is, number_is c)
+    rw (← found-is found, c.enum_told-1.given.1, number_is c)
 
 pub decimal_of_spec : {M : Type 1} → statement M
 decimal_of_spec =

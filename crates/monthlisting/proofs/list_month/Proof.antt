@@ -9,7 +9,7 @@ use Rattle.monthlisting.proofs.list_month.Tie as tie
 -- what the tests find
 tested : (c : tie.After-then-found) → c.then-found.result ≡ month_check c.before.before.before.before.before.args.numbers.now
 unfolding month_check
-tested c = rw (c.then-found.ensures, c.before.keep.ensures, c.before.before.hand_in-handed.ensures.found-1)
+tested c = rw (c.then-found.ensures, c.before.keep.ensures, c.before.before.hand_in-handed.ensures.found)
 
 hand-in-requires : tie.Need-hand_in-handed-requires
 hand-in-requires c κs = search rules
@@ -27,7 +27,7 @@ returns : tie.Need-returns-in-Refused
 returns c =
     let found = c.before in
     let tests = found.before.before in
-    some-refused _ tests.before.before.hand_in-handed.ensures (tested tests) _ found.in-Refused.is
+    some-refused _ tests.before.before.hand_in-handed.ensures (tested tests) _ found.found-1.given.1
 
 enum_told : tie.Need-enum_told-1
 enum_told c = search rules
@@ -43,7 +43,7 @@ returns-2 c =
     let closed = c.before.before in
     let told = closed.before.before in
     let tests = told.before.before in
-    all_listed _ tests.before.before.hand_in-handed.ensures (tested tests) told.in_default.is closed.close.ensures
+    all_listed _ tests.before.before.hand_in-handed.ensures (tested tests) told.enum_told-1.given.1 closed.close.ensures
 
 pub list_month_spec : {M : Type 1} → statement M
 list_month_spec =

@@ -14,11 +14,11 @@ cast-rows c = search rules
 abbrev start_of : tie.After-struct_known-1 → tie.Start
 start_of c = c.before.before.before.before.before.before.before
 
-each_of : (c : tie.After-struct_known-1) → ColumnsAccepted (start_of c).args.day.counts-1 (start_of c).args.numbers.now
+each_of : (c : tie.After-struct_known-1) → ColumnsAccepted (start_of c).args.day.counts (start_of c).args.numbers.now
 each_of c = columns_accepted (start_of c).args.day (start_of c).args.numbers.now (start_of c).requires
 
-few-of : (c : tie.After-struct_known-1) → count (start_of c).args.day.counts-1 Shipper ≤ most_rows
-few-of c = few-rows (start_of c).args.day.counts-1 (start_of c).args.numbers.now (each_of c)
+few-of : (c : tie.After-struct_known-1) → count (start_of c).args.day.counts Shipper ≤ most_rows
+few-of c = few-rows (start_of c).args.day.counts (start_of c).args.numbers.now (each_of c)
 
 column-of-requires : tie.Need-column_of-firm_mdq-requires
 column-of-requires c κs = (each_of c).one
@@ -38,61 +38,61 @@ column-of-requires-5 c κs = (each_of c.before.before.before.before).five
 array-share-prefix-firm-mdq : tie.Need-slice_bounds-firm_mdq-end
 array-share-prefix-firm-mdq c =
     let known = c.before.before.before.before.before in
-    part-inside (start_of known).args.day.counts-1 (start_of known).args.numbers.now 1 (few-of known)
+    part-inside (start_of known).args.day.counts (start_of known).args.numbers.now 1 (few-of known)
     c.before.before.before.before.column_of-firm_mdq.ensures
 
 slice-aggregate-share-day : tie.Need-slice_bounds-share_day-end
 slice-aggregate-share-day c =
     let known = c.before.before.before.before.before.before in
-    part_long (start_of known).args.day.counts-1 (start_of known).args.numbers.now 1 (few-of known)
+    part_long (start_of known).args.day.counts (start_of known).args.numbers.now 1 (few-of known)
     c.before.before.before.before.before.column_of-firm_mdq.ensures
 
 array-share-prefix-auction-mdq : tie.Need-slice_bounds-auction_mdq-end
 array-share-prefix-auction-mdq c =
     let known = c.before.before.before.before.before.before in
-    part-inside (start_of known).args.day.counts-1 (start_of known).args.numbers.now 2 (few-of known)
+    part-inside (start_of known).args.day.counts (start_of known).args.numbers.now 2 (few-of known)
     c.before.before.before.before.column_of-auction_mdq.ensures
 
 slice-aggregate-share-day-2 : tie.Need-slice_bounds-share_day-end-2
 slice-aggregate-share-day-2 c =
     let known = c.before.before.before.before.before.before.before in
-    part_long (start_of known).args.day.counts-1 (start_of known).args.numbers.now 2 (few-of known)
+    part_long (start_of known).args.day.counts (start_of known).args.numbers.now 2 (few-of known)
     c.before.before.before.before.before.column_of-auction_mdq.ensures
 
 array-share-prefix-firm-schedule : tie.Need-slice_bounds-firm_schedule-end
 array-share-prefix-firm-schedule c =
     let known = c.before.before.before.before.before.before.before in
-    part-inside (start_of known).args.day.counts-1 (start_of known).args.numbers.now 3 (few-of known)
+    part-inside (start_of known).args.day.counts (start_of known).args.numbers.now 3 (few-of known)
     c.before.before.before.before.column_of-firm_schedule.ensures
 
 slice-aggregate-share-day-3 : tie.Need-slice_bounds-share_day-end-3
 slice-aggregate-share-day-3 c =
     let known = c.before.before.before.before.before.before.before.before in
-    part_long (start_of known).args.day.counts-1 (start_of known).args.numbers.now 3 (few-of known)
+    part_long (start_of known).args.day.counts (start_of known).args.numbers.now 3 (few-of known)
     c.before.before.before.before.before.column_of-firm_schedule.ensures
 
 array-share-prefix-auction-schedule : tie.Need-slice_bounds-auction_schedule-end
 array-share-prefix-auction-schedule c =
     let known = c.before.before.before.before.before.before.before.before in
-    part-inside (start_of known).args.day.counts-1 (start_of known).args.numbers.now 4 (few-of known)
+    part-inside (start_of known).args.day.counts (start_of known).args.numbers.now 4 (few-of known)
     c.before.before.before.before.column_of-auction_schedule.ensures
 
 slice-aggregate-share-day-4 : tie.Need-slice_bounds-share_day-end-4
 slice-aggregate-share-day-4 c =
     let known = c.before.before.before.before.before.before.before.before.before in
-    part_long (start_of known).args.day.counts-1 (start_of known).args.numbers.now 4 (few-of known)
+    part_long (start_of known).args.day.counts (start_of known).args.numbers.now 4 (few-of known)
     c.before.before.before.before.before.column_of-auction_schedule.ensures
 
 array-share-prefix-lower-tier-schedule : tie.Need-slice_bounds-lower_tier_schedule-end
 array-share-prefix-lower-tier-schedule c =
     let known = c.before.before.before.before.before.before.before.before.before in
-    part-inside (start_of known).args.day.counts-1 (start_of known).args.numbers.now 5 (few-of known)
+    part-inside (start_of known).args.day.counts (start_of known).args.numbers.now 5 (few-of known)
     c.before.before.before.before.column_of-lower_tier_schedule.ensures
 
 slice-aggregate-share-day-5 : tie.Need-slice_bounds-share_day-end-5
 slice-aggregate-share-day-5 c =
     let known = c.before.before.before.before.before.before.before.before.before.before in
-    part_long (start_of known).args.day.counts-1 (start_of known).args.numbers.now 5 (few-of known)
+    part_long (start_of known).args.day.counts (start_of known).args.numbers.now 5 (few-of known)
     c.before.before.before.before.before.column_of-lower_tier_schedule.ensures
 
 share-day-requires : tie.Need-share_day-requires
@@ -114,7 +114,7 @@ returns c =
     let known = five.before.before.before.before.before in
     let args = (start_of known).args in
     let few = few-of known in
-    let counts = args.day.counts-1 in
+    let counts = args.day.counts in
     let numbers = args.numbers.now in
     rw (table_is args.day numbers
     (part_is counts numbers 1 few five.before.before.before.before.column_of-firm_mdq.ensures)

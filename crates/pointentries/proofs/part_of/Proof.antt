@@ -36,7 +36,7 @@ slice-aggregate-first-entry c = search rules
 accepted : (c : tie.In-Accepted)
     → let args = c.before.before.before.before.before.before.args in
     list_check args.list.now args.side args.point ≡ Check.Accepted
-accepted c = sym c.before.before.before.check_list-found.ensures.answers ∙ c.in-Accepted.is
+accepted c = sym c.before.before.before.check_list-found.ensures.answers ∙ c.enum_told-in-Accepted-1.given.1
 
 first-entry-requires : tie.Need-first_entry-row-requires
 first-entry-requires c κs = few-rows _ _ _ (accepted c.before)
@@ -70,7 +70,7 @@ part-result-end-2 c = search rules
 returns : tie.Need-returns-in-Refused
 returns c =
     let told = c.before in
-    let refused = sym told.before.before.before.check_list-found.ensures.answers ∙ told.in-Refused.is in
+    let refused = sym told.before.before.before.check_list-found.ensures.answers ∙ told.enum_told-1.given.1 in
     part-from _ _ (refused-start _ _ _ refused) (refused-long _ _ _ refused) refl refl (omega arith)
 
 returns-2 : tie.Need-returns-in-Accepted
@@ -78,7 +78,7 @@ returns-2 c =
     let counted = c.before in
     let found = counted.before.before in
     let told = found.before.before in
-    let holds = told.before.before.before.check_list-found.ensures.holds told.in-Accepted.is in
+    let holds = told.before.before.before.check_list-found.ensures.holds told.enum_told-in-Accepted-1.given.1 in
     let begins = found.first_entry-row.ensures.0 in
     part-from _ _ (accepted-start _ _ _ (accepted told) holds begins)
     (accepted-long _ _ _ (accepted told) holds begins counted.many_entries-many.ensures.0) refl refl (omega arith)

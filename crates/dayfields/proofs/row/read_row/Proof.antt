@@ -9,11 +9,11 @@ use borrow.Author.Rules.{rules}
 use Rattle.dayfields.proofs.row.read_row.Statement.{statement}
 use Rattle.dayfields.proofs.row.read_row.Tie as tie
 
-abbrev invariant-loop : tie.invariant-loop
+abbrev invariant-loop : tie.invariant-loop-place
 invariant-loop file tag at numbers₀ to columns place₀ byte₀ numbers place byte =
     Reads tag file at numbers₀ to place byte numbers × (place ≤ columns) × (byte ≤ at + place * 4)
 
-abbrev decreases-loop : tie.decreases-loop
+abbrev decreases-loop : tie.decreases-loop-place
 decreases-loop file tag at numbers₀ to columns place₀ byte₀ numbers place byte = columns - place
 
 -- in a turn the place is one of the body's, and no byte of it lies beyond four for each number
@@ -76,7 +76,7 @@ loop-again c =
     let turn = column.before in
     let now = turn.before in
     let start = now.before.before.before.before in (
-      reads_next start.args.tag start.args.file.now start.args.at start.args.numbers-1.now start.args.to
+      reads_next start.args.tag start.args.file.now start.args.at start.args.numbers.now start.args.to
           now.loop-place.place now.loop-place.byte now.loop-place.invariant.0 (inside turn) column.column_at-width.ensures
           read.number_at.ensures put.put.ensures,
       omega (arith, turn.loop-place-test.true),

@@ -16,4 +16,4 @@ copy_part-requires c =
 pub returns : goal.returns
 returns c =
     c.copy_part.ensures
-    ∙ ap (sets c.args.lent-1.now 0) (listed-take c.args.count c.args.numbers.now c.requires.0)
+    ∙ ap (sets c.args.lent.now 0) (listed-take c.args.count c.args.numbers.now c.requires.0)

@@ -55,7 +55,7 @@ copy-numbers-requires : tie.Need-copy_numbers-requires
 copy-numbers-requires c κs =
     let told = c.before.before in
     let k = told.before.before in
-    let yes = told.in-Accepted.is in
+    let yes = told.enum_told-1.given.1 in
     (accepted-there (tested k) yes, accepted-fits (tested k) yes)
 
 head-of-requires : tie.Need-head_of-requires
@@ -64,7 +64,7 @@ head-of-requires c κs = search rules
 returns : tie.Need-returns-in-Refused
 returns c =
     let k = c.before.before.before in
-    refuses (tested k) _ c.before.in-Refused.is
+    refuses (tested k) _ c.before.found-1.given.1
 
 same_length : tie.Need-shape_of-lent
 same_length c = search rules
@@ -74,7 +74,7 @@ returns-2 c =
     let copy = c.before.before.before in
     let told = copy.before.before.before in
     let k = told.before.before in
-    reads (tested k) told.in-Accepted.is copy.copy_numbers.ensures c.head_of.ensures
+    reads (tested k) told.enum_told-1.given.1 copy.copy_numbers.ensures c.head_of.ensures
 
 pub read_day_spec : {M : Type 1} → statement M
 read_day_spec =

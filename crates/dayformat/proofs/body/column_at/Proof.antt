@@ -9,21 +9,21 @@ use borrow.Author.Rules.{rules}
 use Rattle.dayformat.proofs.body.column_at.Statement.{statement}
 use Rattle.dayformat.proofs.body.column_at.Tie as tie
 
-abbrev invariant-loop : tie.invariant-loop
+abbrev invariant-loop : tie.invariant-loop-next
 invariant-loop place body left₀ next₀ left next = (column_in (drop next body) left ≡ column_in body place) × (next ≤ 5)
 
-abbrev decreases-loop : tie.decreases-loop
+abbrev decreases-loop : tie.decreases-loop-next
 decreases-loop place body left₀ next₀ left next = 5 - next
 
 -- the array has as many kinds, and the place its number's
-long : (c : tie.After-body_of-body invariant-loop decreases-loop) → length c.body_of-body.result-1 ≡ 5
+long : (c : tie.After-body_of-body invariant-loop decreases-loop) → length c.body_of-body.result ≡ 5
 long c = ap length c.body_of-body.ensures ∙ length_filled 5 (0 of none) (body c.before.args.tag)
 
-there : (c : tie.In-loop-next invariant-loop decreases-loop) → c.before.loop-next.next < length c.before.before.body_of-body.result-1
+there : (c : tie.In-loop-next invariant-loop decreases-loop) → c.before.loop-next.next < length c.before.before.body_of-body.result
 there c = omega (arith, c.loop-next-test.true, long c.before.before)
 
 is : (c : tie.After-body_of-body invariant-loop decreases-loop)
-    → column_in c.body_of-body.result-1 c.before.args.place ≡ column_in (body c.before.args.tag) c.before.args.place
+    → column_in c.body_of-body.result c.before.args.place ≡ column_in (body c.before.args.tag) c.before.args.place
 is c = rw c.body_of-body.ensures (column_filled c.before.args.tag c.before.args.place)
 
 body-of-requires : tie.Need-body_of-body-requires invariant-loop decreases-loop
@@ -43,7 +43,7 @@ returns c =
     let asked = c.before in
     let turn = asked.before.before.before in
     let now = turn.before in
-    sym (column-here now.before.body_of-body.result-1 now.loop-next.next _ _ (there turn) asked.if-left-several.true)
+    sym (column-here now.before.body_of-body.result now.loop-next.next _ _ (there turn) asked.if-left-several.true)
     ∙ now.loop-next.invariant.0
     ∙ is now.before
 
@@ -58,7 +58,7 @@ loop-again c =
     let asked = c.before in
     let turn = asked.before.before.before in
     let now = turn.before in (
-      sym (column-after now.before.body_of-body.result-1 now.loop-next.next _ _ (there turn) asked.if-left-several.false) ∙ now.loop-next.invariant.0,
+      sym (column-after now.before.body_of-body.result now.loop-next.next _ _ (there turn) asked.if-left-several.false) ∙ now.loop-next.invariant.0,
       omega (arith, turn.loop-next-test.true),
     )
 
@@ -66,7 +66,7 @@ returns-2 : tie.Need-returns invariant-loop decreases-loop
 unfolding column_in
 returns-2 c =
     let now = c.before in
-    let kinds = now.before.body_of-body.result-1 in
+    let kinds = now.before.body_of-body.result in
     let past = drop_of_length-le kinds {i = now.loop-next.next} (omega (arith, c.loop-next-test.false, long now.before)) in
     ap (λ kinds. column_in kinds now.loop-next.left) (sym past) ∙ now.loop-next.invariant.0 ∙ is now.before
 

@@ -12,11 +12,11 @@ use borrow.Author.Rules.{rules}
 use Rattle.dayformat.proofs.layout.bytes_before.Statement.{statement}
 use Rattle.dayformat.proofs.layout.bytes_before.Tie as tie
 
-abbrev invariant-loop : tie.invariant-loop
+abbrev invariant-loop : tie.invariant-loop-place
 invariant-loop counts many bytes₀ place₀ bytes place =
     (bytes ≡ bytes_before counts place) × (place ≤ many) × (bytes ≤ 15 + place * 2 ^ 41)
 
-abbrev decreases-loop : tie.decreases-loop
+abbrev decreases-loop : tie.decreases-loop-place
 decreases-loop counts many bytes₀ place₀ bytes place = many - place
 
 -- so few bytes have the fields of a table

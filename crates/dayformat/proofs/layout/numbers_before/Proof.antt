@@ -11,12 +11,12 @@ use borrow.Author.Rules.{rules}
 use Rattle.dayformat.proofs.layout.numbers_before.Statement.{statement}
 use Rattle.dayformat.proofs.layout.numbers_before.Tie as tie
 
-abbrev invariant-loop : tie.invariant-loop
+abbrev invariant-loop : tie.invariant-loop-place
 invariant-loop counts many numbers₀ place₀ numbers place =
     Adding many (λ place. held counts (tag_at place)) place numbers
     × (numbers ≤ sum place (λ place. (form (tag_at place)).columns) * 2 ^ 32)
 
-abbrev decreases-loop : tie.decreases-loop
+abbrev decreases-loop : tie.decreases-loop-place
 decreases-loop counts many numbers₀ place₀ numbers place = many - place
 
 -- so few numbers does the next table hold, and those before it

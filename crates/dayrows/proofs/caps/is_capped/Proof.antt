@@ -17,11 +17,11 @@ use Rattle.dayrows.proofs.Searches.{found, missing}
 use Rattle.dayrows.proofs.caps.is_capped.Statement.{statement}
 use Rattle.dayrows.proofs.caps.is_capped.Tie as tie
 
-abbrev invariant-loop : tie.invariant-loop
+abbrev invariant-loop : tie.invariant-loop-row
 invariant-loop counts numbers tag at rows row₀ row =
     (rows ≡ count counts (first_name tag).tag) × Searched (λ i. caps counts (col numbers) tag at i) rows row
 
-abbrev decreases-loop : tie.decreases-loop
+abbrev decreases-loop : tie.decreases-loop-row
 decreases-loop counts numbers tag at rows row₀ row = rows - row
 
 first : (c : tie.After-names_of-names invariant-loop decreases-loop)

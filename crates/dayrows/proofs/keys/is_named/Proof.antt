@@ -14,11 +14,11 @@ use borrow.Author.Rules.{rules}
 use Rattle.dayrows.proofs.keys.is_named.Statement.{statement}
 use Rattle.dayrows.proofs.keys.is_named.Tie as tie
 
-abbrev invariant-loop : tie.invariant-loop
+abbrev invariant-loop : tie.invariant-loop-next
 invariant-loop counts numbers at names next₀ next =
     (names_listed counts (col numbers) at (drop next names) ≡ names_listed counts (col numbers) at names) × (next ≤ 2)
 
-abbrev decreases-loop : tie.decreases-loop
+abbrev decreases-loop : tie.decreases-loop-next
 decreases-loop counts numbers at names next₀ next = 2 - next
 
 abbrev start_of : tie.After-names_of-names invariant-loop decreases-loop → tie.Start invariant-loop decreases-loop

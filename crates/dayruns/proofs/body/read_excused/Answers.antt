@@ -6,7 +6,7 @@ use Rattle.dayruns.proofs.body.read_excused.Goals as goal
 
 pub read_kind-shipper-requires : goal.read_kind-shipper-requires
 read_kind-shipper-requires c =
-    kind-room (kinds-none c.args.file.now c.args.from c.args.numbers-1.now) Excused _ _ refl c.requires
+    kind-room (kinds-none c.args.file.now c.args.from c.args.numbers.now) Excused _ _ refl c.requires
 
 pub read_kind-requires : goal.read_kind-requires
 read_kind-requires c =

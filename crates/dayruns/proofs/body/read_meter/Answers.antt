@@ -6,7 +6,7 @@ use Rattle.dayruns.proofs.body.read_meter.Goals as goal
 
 pub read_kind-shipper-requires : goal.read_kind-shipper-requires
 read_kind-shipper-requires c =
-    kind-room (kinds-none c.args.file.now c.args.from c.args.numbers-1.now) Meter _ _ refl c.requires
+    kind-room (kinds-none c.args.file.now c.args.from c.args.numbers.now) Meter _ _ refl c.requires
 
 pub read_kind-mdqs-requires : goal.read_kind-mdqs-requires
 read_kind-mdqs-requires c =

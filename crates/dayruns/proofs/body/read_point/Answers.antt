@@ -6,7 +6,7 @@ use Rattle.dayruns.proofs.body.read_point.Goals as goal
 
 pub read_kind-side-requires : goal.read_kind-side-requires
 read_kind-side-requires c =
-    kind-room (kinds-none c.args.file.now c.args.from c.args.numbers-1.now) Point _ _ refl c.requires
+    kind-room (kinds-none c.args.file.now c.args.from c.args.numbers.now) Point _ _ refl c.requires
 
 pub read_kind-point-requires : goal.read_kind-point-requires
 read_kind-point-requires c =

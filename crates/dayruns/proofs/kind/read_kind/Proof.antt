@@ -9,10 +9,10 @@ use Rattle.dayruns.proofs.KindReading.{number-there, Reading, reading-none, read
 use Rattle.dayruns.proofs.kind.read_kind.Statement.{statement}
 use Rattle.dayruns.proofs.kind.read_kind.Tie as tie
 
-abbrev invariant-loop : tie.invariant-loop
+abbrev invariant-loop : tie.invariant-loop-place
 invariant-loop file from many column numbers₀ width kept₀ place₀ numbers kept place = Reading file from many column numbers₀ place numbers kept
 
-abbrev decreases-loop : tie.decreases-loop
+abbrev decreases-loop : tie.decreases-loop-place
 decreases-loop file from many column numbers₀ width kept₀ place₀ numbers kept place = many - place
 
 -- the bytes of the next number

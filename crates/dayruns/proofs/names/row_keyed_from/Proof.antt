@@ -7,10 +7,10 @@ use borrow.Author.Rules.{rules}
 use Rattle.dayruns.proofs.names.row_keyed_from.Statement.{statement}
 use Rattle.dayruns.proofs.names.row_keyed_from.Tie as tie
 
-abbrev invariant-loop : tie.invariant-loop
+abbrev invariant-loop : tie.invariant-loop-row
 invariant-loop numbers at from form start rows row₀ row = Unit {0}
 
-abbrev decreases-loop : tie.decreases-loop
+abbrev decreases-loop : tie.decreases-loop-row
 decreases-loop numbers at from form start rows row₀ row = rows - row
 
 -- so few numbers stand before a row

@@ -14,11 +14,11 @@ use borrow.Author.Rules.{rules}
 use Rattle.dayruns.proofs.row.is_fed.Statement.{statement}
 use Rattle.dayruns.proofs.row.is_fed.Tie as tie
 
-abbrev invariant-loop : tie.invariant-loop
+abbrev invariant-loop : tie.invariant-loop-next
 invariant-loop numbers at mdqs next₀ next =
     (some_idle (col numbers) at (drop next mdqs) ≡ some_idle (col numbers) at mdqs) × (next ≤ 2)
 
-abbrev decreases-loop : tie.decreases-loop
+abbrev decreases-loop : tie.decreases-loop-next
 decreases-loop numbers at mdqs next₀ next = 2 - next
 
 abbrev start_of : tie.After-mdqs_of-mdqs invariant-loop decreases-loop → tie.Start invariant-loop decreases-loop

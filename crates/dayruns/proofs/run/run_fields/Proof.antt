@@ -14,12 +14,12 @@ use borrow.Author.Rules.{rules}
 use Rattle.dayruns.proofs.run.run_fields.Statement.{statement}
 use Rattle.dayruns.proofs.run.run_fields.Tie as tie
 
-abbrev invariant-loop : tie.invariant-loop
+abbrev invariant-loop : tie.invariant-loop-source
 invariant-loop source counts file tag at numbers₀ form size to₀ near₀ rows₀ place₀ numbers to near rows place =
     Going (record { source = source; counts = counts; file = file; at = at; tag = tag }) numbers₀ rows place numbers
     × (to ≡ row_start counts tag rows)
 
-abbrev decreases-loop : tie.decreases-loop
+abbrev decreases-loop : tie.decreases-loop-source
 decreases-loop source counts file tag at numbers₀ form size to₀ near₀ rows₀ place₀ numbers to near rows place = length file - place
 
 abbrev fields : tie.Start invariant-loop decreases-loop → Fields

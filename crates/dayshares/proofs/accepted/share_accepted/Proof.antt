@@ -19,9 +19,9 @@ firm-stage c =
     let start = c.before.before.before.before.before.before.before.before.before.before in
     record {
       T = _;
-      firm_lent = start.args.firm-1.now;
-      auction_lent = start.args.auction-1.now;
-      lower_tier_lent = start.args.lower_tier-1.now;
+      firm_lent = start.args.firm.now;
+      auction_lent = start.args.auction.now;
+      lower_tier_lent = start.args.lower-tier.now;
       ready = start.requires;
       given = _;
       after = _;

@@ -28,7 +28,7 @@ start c =
       fs = c.args.free_flow_mdq.now;
       ms = c.args.mdq.now;
       qs = c.args.schedule.now;
-      lent = c.args.given-1.now;
+      lent = c.args.given.now;
       ready = c.requires.0;
       split = c.requires.1;
     }

@@ -58,7 +58,7 @@ returns : tie.Need-returns-in-Refused
 returns c =
     let counted = c.before.before.before in
     let args = counted.before.before.before.before.before.before.args in
-    counts_refuse args.counts args.numbers.now args.place args.room (first counted) c.before.in-Refused.is
+    counts_refuse args.counts args.numbers.now args.place args.room (first counted) c.before.counted-1.given.1
 
 returns-2 : tie.Need-returns-in-Accepted
 returns-2 c =
@@ -66,7 +66,7 @@ returns-2 c =
     let told = clear.before.before in
     let counted = told.before.before in
     let args = counted.before.before.before.before.before.before.args in
-    rows_decide args.counts args.numbers.now args.place args.room (first counted) told.in-Accepted.is
+    rows_decide args.counts args.numbers.now args.place args.room (first counted) told.enum_told-1.given.1
     (rw (c.keep-in-Accepted.ensures, clear.clear.ensures, clear.before.first_beyond.ensures))
 
 pub examine_column_spec : {M : Type 1} → statement M

@@ -12,11 +12,11 @@ use Rattle.dayvalues.proofs.Rows.{stops_at, passes-all}
 use Rattle.dayvalues.proofs.row.beyond_row.Statement.{statement}
 use Rattle.dayvalues.proofs.row.beyond_row.Tie as tie
 
-abbrev invariant-loop : tie.invariant-loop
+abbrev invariant-loop : tie.invariant-loop-place
 invariant-loop counts numbers tag row columns place₀ place =
     (columns ≡ (form tag).columns) × Searched (beyond counts (col numbers) tag row) (form tag).columns place
 
-abbrev decreases-loop : tie.decreases-loop
+abbrev decreases-loop : tie.decreases-loop-place
 decreases-loop counts numbers tag row columns place₀ place = columns - place
 
 columns_few : (c : tie.After-struct_known-1 invariant-loop decreases-loop) → c.before.form_of-columns.result.columns ≤ 68

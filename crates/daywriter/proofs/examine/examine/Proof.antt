@@ -36,7 +36,7 @@ first : (c : tie.After-then-singles)
     → c.then-singles.result
     ≡ (Check.Accepted
     then keep (eqb (length c.before.before.before.before.before.before.args.numbers.now)
-    (numbers_in c.before.before.before.before.before.before.args.day.counts-1)) 9
+    (numbers_in c.before.before.before.before.before.before.args.day.counts)) 9
     then singles_check c.before.before.before.before.before.before.args.day)
 first c =
     rw (
@@ -49,13 +49,13 @@ first c =
 returns : tie.Need-returns-in-Refused
 returns c =
     let args = c.before.before.before.before.before.before.before.before.before.args in
-    singles_refuse args.day args.numbers.now (first c.before.before.before) c.before.in-Refused.is
+    singles_refuse args.day args.numbers.now (first c.before.before.before) c.before.singles-1.given.1
 
 returns-2 : tie.Need-returns-in-Accepted
 returns-2 c =
     let told = c.before in
     let args = told.before.before.before.before.before.before.before.before.args in
-    rows_decide args.day args.numbers.now (first told.before.before) told.in-Accepted.is c.examine_rows.ensures
+    rows_decide args.day args.numbers.now (first told.before.before) told.enum_told-1.given.1 c.examine_rows.ensures
 
 pub examine_spec : {M : Type 1} → statement M
 examine_spec =

@@ -10,11 +10,11 @@ use Rattle.daywriter.proofs.RowLaying.{Lays, lays-none, lays-next, lays_all}
 use Rattle.daywriter.proofs.put.put_body.Statement.{statement}
 use Rattle.daywriter.proofs.put.put_body.Tie as tie
 
-abbrev invariant-loop : tie.invariant-loop
+abbrev invariant-loop : tie.invariant-loop-place
 invariant-loop tag numbers from block₀ at columns place₀ byte₀ block place byte =
     Lays (col numbers) tag from block₀ at place byte block × (place ≤ columns) × (byte ≤ at + place * 4)
 
-abbrev decreases-loop : tie.decreases-loop
+abbrev decreases-loop : tie.decreases-loop-place
 decreases-loop tag numbers from block₀ at columns place₀ byte₀ block place byte = columns - place
 
 -- in a turn the place is one of the row's

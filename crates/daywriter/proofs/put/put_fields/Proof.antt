@@ -12,11 +12,11 @@ use Rattle.daywriter.proofs.FieldLaying.{Fielding, fielding_none, fielding_next,
 use Rattle.daywriter.proofs.put.put_fields.Statement.{statement}
 use Rattle.daywriter.proofs.put.put_fields.Tie as tie
 
-abbrev invariant-loop : tie.invariant-loop
+abbrev invariant-loop : tie.invariant-loop-row
 invariant-loop tag counts numbers block₀ at size rows row₀ byte₀ block row byte =
     Fielding counts (col numbers) tag block₀ at row block byte × (row ≤ rows)
 
-abbrev decreases-loop : tie.decreases-loop
+abbrev decreases-loop : tie.decreases-loop-row
 decreases-loop tag counts numbers block₀ at size rows row₀ byte₀ block row byte = rows - row
 
 -- the bytes of the rows before a turn's

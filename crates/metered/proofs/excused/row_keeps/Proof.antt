@@ -16,11 +16,11 @@ use Rattle.metered.proofs.Rows.{figure_at, length-figures}
 use Rattle.metered.proofs.excused.row_keeps.Statement.{statement}
 use Rattle.metered.proofs.excused.row_keeps.Tie as tie
 
-abbrev invariant-loop : tie.invariant-loop
+abbrev invariant-loop : tie.invariant-loop-hour
 invariant-loop metered excused kept₀ hour₀ kept hour =
     kept ≡ true → Searched (λ i. ltb (col (bare_hours metered) i) (col (bare_hours excused) i)) 24 hour
 
-abbrev decreases-loop : tie.decreases-loop
+abbrev decreases-loop : tie.decreases-loop-hour
 decreases-loop metered excused kept₀ hour₀ kept hour = 24 - hour
 
 long : (c : tie.Start invariant-loop decreases-loop) → (length c.args.t1 ≡ 24) × (length c.args.t2 ≡ 24)

@@ -29,15 +29,15 @@ enum_told : tie.Need-enum_told-1
 enum_told c = search rules
 
 both-daily-requires : tie.Need-both_daily-requires
-both-daily-requires c κs = daily-accepting _ _ _ (sym (checked c.before.before) ∙ c.in-Accepted.is)
+both-daily-requires c κs = daily-accepting _ _ _ (sym (checked c.before.before) ∙ c.enum_told-1.given.1)
 
 returns : tie.Need-returns-in-Refused
-returns c = daily-refused _ _ (sym (checked c.before.before.before) ∙ c.before.in-Refused.is)
+returns c = daily-refused _ _ (sym (checked c.before.before.before) ∙ c.before.found-1.given.1)
 
 returns-2 : tie.Need-returns-in-Accepted
 returns-2 c =
     let told = c.before in
-    daily-accepted _ _ (sym (checked told.before.before) ∙ told.in-Accepted.is) c.both_daily.ensures
+    daily-accepted _ _ (sym (checked told.before.before) ∙ told.enum_told-1.given.1) c.both_daily.ensures
 
 pub daily_overruns_spec : {M : Type 1} → statement M
 daily_overruns_spec =

@@ -96,18 +96,18 @@ four-overruns-requires : tie.Need-four_overruns-requires
 four-overruns-requires c κs =
     let told = c.before in
     let tests = told.before.before in
-    day-fits (tested tests) told.in-Accepted.is (same (made_of tests).both_days-both.result) (long (made_of tests))
+    day-fits (tested tests) told.enum_told-1.given.1 (same (made_of tests).both_days-both.result) (long (made_of tests))
 
 returns : tie.Need-returns-in-Refused
 returns c =
     let tests = c.before.before.before in
-    day-refused (tested tests) c.before.in-Refused.is ∙ day-nothing (day (start_of tests))
+    day-refused (tested tests) c.before.found-1.given.1 ∙ day-nothing (day (start_of tests))
 
 returns-2 : tie.Need-returns-in-Accepted
 returns-2 c =
     let told = c.before.before in
     let tests = told.before.before in
-    day-over (tested tests) told.in-Accepted.is (same (made_of tests).both_days-both.result) c.four_overruns.ensures
+    day-over (tested tests) told.enum_told-1.given.1 (same (made_of tests).both_days-both.result) c.four_overruns.ensures
     ∙ day-nothing (day (start_of tests))
 
 pub metered_overruns_spec : {M : Type 1} → statement M

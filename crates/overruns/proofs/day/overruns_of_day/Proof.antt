@@ -146,16 +146,16 @@ four-overruns-requires c κs =
     let less = c.before in
     let told = less.before.before.before in
     let tests = told.before.before in
-    day-fits (tested tests) told.in-Accepted.is less.compared_days-compared.ensures (long (listed tests)).0
+    day-fits (tested tests) told.enum_told-1.given.1 less.compared_days-compared.ensures (long (listed tests)).0
 
 returns : tie.Need-returns-in-Refused
-returns c = day-refused (tested c.before.before.before) c.before.in-Refused.is
+returns c = day-refused (tested c.before.before.before) c.before.found-1.given.1
 
 returns-2 : tie.Need-returns-in-Accepted
 returns-2 c =
     let less = c.before.before in
     let told = less.before.before.before in
-    day-over (tested told.before.before) told.in-Accepted.is less.compared_days-compared.ensures c.four_overruns.ensures
+    day-over (tested told.before.before) told.enum_told-1.given.1 less.compared_days-compared.ensures c.four_overruns.ensures
 
 pub overruns_of_day_spec : {M : Type 1} → statement M
 overruns_of_day_spec =

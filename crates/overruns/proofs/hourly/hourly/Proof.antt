@@ -22,11 +22,11 @@ taken hours excused = col (compared (delivered hours) (delivered excused))
 abbrev brought : List (List Megajoules) → List (List Megajoules) → ℕ → ℕ
 brought hours excused = col (compared (received hours) (received excused))
 
-abbrev invariant-loop : tie.invariant-loop
+abbrev invariant-loop : tie.invariant-loop-hour
 invariant-loop hours excused most_delivered most_received total₀ hour₀ total hour =
     Adding 24 (greater_excess (taken hours excused) (brought hours excused) most_delivered.0 most_received.0) hour total
 
-abbrev decreases-loop : tie.decreases-loop
+abbrev decreases-loop : tie.decreases-loop-hour
 decreases-loop hours excused most_delivered most_received total₀ hour₀ total hour = 24 - hour
 
 -- a turn adds the hour's excess

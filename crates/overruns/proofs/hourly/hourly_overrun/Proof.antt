@@ -46,15 +46,15 @@ enum_told c = search rules
 
 hourly-requires : tie.Need-hourly-requires
 hourly-requires c κs =
-    hourly-accepting _ _ _ (sym (checked c.before.before) ∙ c.in-Accepted.is)
+    hourly-accepting _ _ _ (sym (checked c.before.before) ∙ c.enum_told-1.given.1)
 
 returns : tie.Need-returns-in-Refused
-returns c = over-refused _ _ (sym (checked c.before.before.before) ∙ c.before.in-Refused.is)
+returns c = over-refused _ _ (sym (checked c.before.before.before) ∙ c.before.found-1.given.1)
 
 returns-2 : tie.Need-returns-in-Accepted
 returns-2 c =
     let told = c.before in
-    over-accepted _ _ (sym (checked told.before.before) ∙ told.in-Accepted.is) c.hourly.ensures
+    over-accepted _ _ (sym (checked told.before.before) ∙ told.enum_told-1.given.1) c.hourly.ensures
 
 pub hourly_overrun_spec : {M : Type 1} → statement M
 hourly_overrun_spec =

@@ -10,10 +10,10 @@ use Rattle.overruns.proofs.Parts.{part_length, part-first, part-gas, part_period
 use Rattle.overruns.proofs.twelve_hourly.twelve_hourly.Statement.{statement}
 use Rattle.overruns.proofs.twelve_hourly.twelve_hourly.Tie as tie
 
-abbrev invariant-loop : tie.invariant-loop
+abbrev invariant-loop : tie.invariant-loop-h
 invariant-loop p m hours sum₀ total₀ h₀ sum total h = Added p.0 m.0 (col hours) h sum.0 total
 
-abbrev decreases-loop : tie.decreases-loop
+abbrev decreases-loop : tie.decreases-loop-h
 decreases-loop p m hours sum₀ total₀ h₀ sum total h = 25 - h
 
 -- a turn has the period's gas, and adds its excess

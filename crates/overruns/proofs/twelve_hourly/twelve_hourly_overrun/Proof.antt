@@ -34,7 +34,7 @@ checked c =
 accepting : (c : tie.In-Accepted)
     → let args = c.before.before.before.before.before.before.before.before.before.before.before.args in
     (length args.hours.now ≡ 35) × (length args.excused.now ≡ 35) × Within (compared args.hours.now args.excused.now)
-accepting c = twelve_hourly-accepting _ _ _ _ (sym (checked c.before.before) ∙ c.in-Accepted.is)
+accepting c = twelve_hourly-accepting _ _ _ _ (sym (checked c.before.before) ∙ c.enum_told-1.given.1)
 
 keep-requires : tie.Need-keep-requires
 keep-requires c κs = search rules
@@ -78,13 +78,13 @@ twelve-hourly-requires c κs =
     rw made.compared_days-compared.ensures (length-compared args.hours.now args.excused.now ∙ a.0, a.2)
 
 returns : tie.Need-returns-in-Refused
-returns c = over-refused _ _ (sym (checked c.before.before.before) ∙ c.before.in-Refused.is)
+returns c = over-refused _ _ (sym (checked c.before.before.before) ∙ c.before.found-1.given.1)
 
 returns-2 : tie.Need-returns-in-Accepted
 returns-2 c =
     let made = c.before.before in
     let told = made.before in
-    over-accepted _ _ (sym (checked told.before.before) ∙ told.in-Accepted.is)
+    over-accepted _ _ (sym (checked told.before.before) ∙ told.enum_told-1.given.1)
     (c.twelve_hourly.ensures ∙ rw made.compared_days-compared.ensures)
 
 pub twelve_hourly_overrun_spec : {M : Type 1} → statement M

@@ -9,8 +9,8 @@ use Rattle.lines.proofs.Lining.{laid_from}
 use Rattle.pointhours.specs.Parts.{entries_in, shipper_in, entitlement_in, mdq_in, most_entries}
 use Rattle.pointhours.proofs.Hours.{front_is, front_long, hour-refused, hour-shared}
 use borrow.Author.Rules.{rules}
-use Rattle.pointhours.proofs.hour-1.put_hour.Statement.{statement}
-use Rattle.pointhours.proofs.hour-1.put_hour.Tie as tie
+use Rattle.pointhours.proofs.hour.put_hour.Statement.{statement}
+use Rattle.pointhours.proofs.hour.put_hour.Tie as tie
 
 -- where the function begins
 abbrev start_of : tie.After-mdqs_in-mdqs → tie.Start
@@ -99,7 +99,7 @@ returns c =
       hour-refused (start_of made).args.capacity.0 (entries_in (part_of made)) (shipper_in (part_of made))
           (entitlement_in (part_of made)) (mdq-of made) (few made) (entitlements-front made) (mdqs-front made)
           (length-replicate {A = ℕ} most_entries 0)
-          shared.share_hour-hour.ensures told.in-Refused.is put.put_refusal.ensures.0,
+          shared.share_hour-hour.ensures told.hour-1.given.1 put.put_refusal.ensures.0,
       omega (arith, put.put_refusal.ensures.1),
     )
 
@@ -115,7 +115,7 @@ returns-2 c =
       hour-shared (start_of made).args.capacity.0 (entries_in (part_of made)) (shipper_in (part_of made))
           (entitlement_in (part_of made)) (mdq-of made) (few made) (entitlements-front made) (mdqs-front made)
           (length-replicate {A = ℕ} most_entries 0)
-          shared.share_hour-hour.ensures told.in-Shared.is
+          shared.share_hour-hour.ensures told.enum_told-1.given.1
           (laid_from (start_of made).args.at put.before.lesser.ensures put.put_shares.ensures.0),
       put.put_shares.ensures.1,
     )

@@ -56,7 +56,7 @@ returns : tie.Need-returns-in-Refused
 returns c =
     let read = c.before.before.before.before in
     lists-refusal _ _ _ (length-replicate {A = ℕ} full_room 0) _
-    (rw c.before.in-Refused.is at read.read_day-reading.ensures) _ _
+    (rw c.before.reading-1.given.1 at read.read_day-reading.ensures) _ _
 
 same_length : tie.Need-shape_of-lent
 same_length c = search rules

@@ -12,11 +12,11 @@ use borrow.Author.Rules.{rules}
 use Rattle.pointlisting.proofs.list.put_each.Statement.{statement}
 use Rattle.pointlisting.proofs.list.put_each.Tie as tie
 
-abbrev invariant-loop : tie.invariant-loop
+abbrev invariant-loop : tie.invariant-loop-row
 invariant-loop day numbers receipt delivery text₀ at rows row₀ size₀ text row size =
     (row ≤ rows) × (size ≤ 2 ^ 21 * row) × Laid (joined row (point_lines day.counts (col numbers))) text₀ at size text
 
-abbrev decreases-loop : tie.decreases-loop
+abbrev decreases-loop : tie.decreases-loop-row
 decreases-loop day numbers receipt delivery text₀ at rows row₀ size₀ text row size = rows - row
 
 -- where the function begins

@@ -16,7 +16,7 @@ start_of c = c.before.before.before.before.before.before.before.before.before.be
 
 -- the row's figures
 abbrev figure : tie.Start → ℕ → ℕ
-figure start place = number_at start.args.day.counts-1 (col start.args.numbers.now) Point start.args.row place
+figure start place = number_at start.args.day.counts (col start.args.numbers.now) Point start.args.row place
 
 side_of : (c : tie.After-put_title-size) → c.before.before.before.before.number_at-side.result ≡ figure (start_of c) 0
 side_of c = c.before.before.before.before.number_at-side.ensures

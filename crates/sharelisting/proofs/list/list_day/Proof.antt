@@ -47,7 +47,7 @@ returns c =
     let shared = c.before.before.before.before.before.before in
     let start = shared.before.before.before.before.before.before in
     never_refused start.args.day start.args.numbers.now (sound-of start) shared.share_numbers-shared.ensures _
-    c.before.in-Refused.is
+    c.before.shared-1.given.1
 
 same_length : tie.Need-shape_of-lent
 same_length c = search rules
@@ -60,7 +60,7 @@ returns-2 c =
     let start = shared.before.before.before.before.before.before in
     let is =
     text_is start.args.day start.args.numbers.now (sound-of start) shared.share_numbers-shared.ensures _
-    told.before.in-Shared.is
+    told.before.shared-in-Shared-1.given.1
     in rw is at laid.lay_shares.ensures
 
 pub list_day_spec : {M : Type 1} → statement M

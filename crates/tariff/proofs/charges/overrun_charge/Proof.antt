@@ -33,19 +33,19 @@ cast-half-up c = search rules
 mul-half-up : tie.Need-overflow_mul-rate
 mul-half-up c =
     let told = c.before.before in
-    let within = overrun-within _ _ (tested told.before.before ∙ told.in-Accepted.is) in
+    let within = overrun-within _ _ (tested told.before.before ∙ told.enum_told-1.given.1) in
     record { fits = omega (arith, mul-le-mul within.0 within.1) }
 
 half-up-requires : tie.Need-half_up-cents-requires
 half-up-requires c κs = search rules
 
 returns : tie.Need-returns-in-Refused
-returns c = rw (tested c.before.before.before ∙ c.before.in-Refused.is)
+returns c = rw (tested c.before.before.before ∙ c.before.found-1.given.1)
 
 returns-2 : tie.Need-returns-in-Accepted
 returns-2 c =
     let told = c.before.before.before in
-    rw (c.half_up-cents.ensures, tested told.before.before ∙ told.in-Accepted.is)
+    rw (c.half_up-cents.ensures, tested told.before.before ∙ told.enum_told-1.given.1)
 
 pub overrun_charge_spec : {M : Type 1} → statement M
 overrun_charge_spec =

@@ -37,12 +37,12 @@ unfolding half_up
 mul-t13 c = record { fits = product-fits (omega (arith, c.half_up-each.ensures)) (omega arith) }
 
 returns : tie.Need-returns-in-Refused
-returns c = rw (tested c.before.before.before ∙ c.before.in-Refused.is)
+returns c = rw (tested c.before.before.before ∙ c.before.found-1.given.1)
 
 returns-2 : tie.Need-returns-in-Accepted
 returns-2 c =
     let told = c.before.before in
-    rw (c.half_up-each.ensures, tested told.before.before ∙ told.in-Accepted.is)
+    rw (c.half_up-each.ensures, tested told.before.before ∙ told.enum_told-1.given.1)
 
 pub request_charge_spec : {M : Type 1} → statement M
 request_charge_spec =

@@ -67,7 +67,7 @@ half-up-requires : tie.Need-half_up-cents-requires
 half-up-requires c κs = search rules
 
 returns : tie.Need-returns-in-Refused
-returns c = rw (tested c.before.before.before ∙ c.before.in-Refused.is)
+returns c = rw (tested c.before.before.before ∙ c.before.found-1.given.1)
 
 returns-2 : tie.Need-returns-in-Accepted
 returns-2 c =
@@ -78,7 +78,7 @@ returns-2 c =
       larger.larger-quantity.ensures,
       larger.before.upward-in-Accepted.ensures,
       larger.before.before.upward.ensures,
-      tested told.before.before ∙ told.in-Accepted.is,
+      tested told.before.before ∙ told.enum_told-1.given.1,
     )
 
 pub variation_charge_spec : {M : Type 1} → statement M

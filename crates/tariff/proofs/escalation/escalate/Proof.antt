@@ -61,15 +61,15 @@ enum_told c = search rules
 cast-t24 : tie.Need-overflow_cast-result
 cast-t24 c =
     let rounded = c.before.before.before.before.before.before.before.before.before.before in
-    omega (arith, rounded.half_up-escalated.ensures, escalated_within _ _ _ (tested c.before.before ∙ c.in-Accepted.is))
+    omega (arith, rounded.half_up-escalated.ensures, escalated_within _ _ _ (tested c.before.before ∙ c.enum_told-1.given.1))
 
 returns : tie.Need-returns-in-Refused
-returns c = rw (tested c.before.before.before ∙ c.before.in-Refused.is)
+returns c = rw (tested c.before.before.before ∙ c.before.found-1.given.1)
 
 returns-2 : tie.Need-returns-in-Accepted
 returns-2 c =
     let rounded = c.before.before.before.before.before.before.before.before.before.before in
-    rw (rounded.half_up-escalated.ensures, tested c.before.before ∙ c.in-Accepted.is)
+    rw (rounded.half_up-escalated.ensures, tested c.before.before ∙ c.enum_told-1.given.1)
 
 pub escalate_spec : {M : Type 1} → statement M
 escalate_spec =

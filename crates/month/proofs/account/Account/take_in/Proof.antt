@@ -11,7 +11,7 @@ use Rattle.month.proofs.account.Account.take_in.Tie as tie
 
 -- where the day is accepted
 few : (c : tie.In-Accepted) → c.before.before.before.args.t1.count < most_days
-few c = (next-kept _ _ _ (sym c.before.before.examine_next-found.ensures ∙ c.in-Accepted.is)).few
+few c = (next-kept _ _ _ (sym c.before.before.examine_next-found.ensures ∙ c.enum_told-in-Accepted-1.given.1)).few
 
 examine-next-requires : tie.Need-examine_next-found-requires
 examine-next-requires c κs = search rules
@@ -32,10 +32,10 @@ add-self : tie.Need-overflow_add-self
 add-self c = omega (arith, few c)
 
 returns : tie.Need-returns-in-Refused
-returns c = day-left _ _ c.before.before.examine_next-found.ensures c.in-Refused.is
+returns c = day-left _ _ c.before.before.examine_next-found.ensures c.enum_told-1.given.1
 
 returns-2 : tie.Need-returns-in-Accepted
-returns-2 c = day-taken c.before.before.before.args.t1 _ c.before.before.examine_next-found.ensures c.in-Accepted.is
+returns-2 c = day-taken c.before.before.before.args.t1 _ c.before.before.examine_next-found.ensures c.enum_told-in-Accepted-1.given.1
 
 pub take_in_spec : {M : Type 1} → statement M
 take_in_spec =

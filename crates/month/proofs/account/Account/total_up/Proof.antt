@@ -11,15 +11,15 @@ use borrow.Author.Rules.{rules}
 use Rattle.month.proofs.account.Account.total_up.Statement.{statement}
 use Rattle.month.proofs.account.Account.total_up.Tie as tie
 
-abbrev invariant-loop : tie.invariant-loop
+abbrev invariant-loop : tie.invariant-loop-self
 invariant-loop self₀ account sums₀ self sums = TakingOff self₀ self sums
 
-abbrev decreases-loop : tie.decreases-loop
+abbrev decreases-loop : tie.decreases-loop-self
 decreases-loop self₀ account sums₀ self sums = self.count
 
 -- where the tests accept
 accepted : (c : tie.In_default invariant-loop decreases-loop) → account_check c.before.before.before.args.t1 ≡ Accepted
-accepted c = sym c.before.before.examine_account-found.ensures ∙ c.in_default.is
+accepted c = sym c.before.before.examine_account-found.ensures ∙ c.enum_told-1.given.1
 
 few : (c : tie.In_default invariant-loop decreases-loop) → c.before.before.before.args.t1.count ≤ most_days
 few c = (days-kept _ _ (accepted c)).few
@@ -33,7 +33,7 @@ enum-known-found c = search rules
 returns : tie.Need-returns-in-Refused invariant-loop decreases-loop
 returns c =
     let found = c.before in
-    not_totalled _ found.before.before.examine_account-found.ensures found.in-Refused.is
+    not_totalled _ found.before.before.examine_account-found.ensures found.found-1.given.1
 
 enum_told : tie.Need-enum_told-1 invariant-loop decreases-loop
 enum_told c = search rules
