@@ -17,7 +17,7 @@ breaks-requires c κs = search rules
 returns : tie.Need-returns-then-broken-ne0
 returns c =
     let args = c.before.before.before.before.args in
-    taken-broken args.source args.counts args.file.now args.tag args.at args.row args.numbers-1.now
+    taken-broken args.source args.counts args.file.now args.tag args.at args.row args.numbers.now
     c.before.breaks-broken.ensures c.if-broken-ne0.true
 
 add-read-row : tie.Need-overflow_add-at
@@ -42,7 +42,7 @@ returns-2 c =
     let kept = place.before.before in
     let found = kept.before in
     let args = found.before.before.before.args in
-    taken-whole args.source args.counts args.file.now args.tag args.at args.row args.numbers-1.now
+    taken-whole args.source args.counts args.file.now args.tag args.at args.row args.numbers.now
     found.breaks-broken.ensures kept.if-broken-ne0.false
     (rw (← place.row_place.ensures.0) read.read_row.ensures) c.row_fault.ensures
 

@@ -12,7 +12,7 @@ returns-then-text-at c =
     let args = c.args in
     record {
       counts = c.decimal_length-length.ensures;
-      lays = sym (sets-past (decimal args.number) args.text-1.now args.at c.if-text-at.true);
+      lays = sym (sets-past (decimal args.number) args.text.now args.at c.if-text-at.true);
     }
 
 pub overflow_sub-place : goal.overflow_sub-place

@@ -26,7 +26,7 @@ form-of-requires c κs = search rules
 loop-holds : tie.Need-loop-place-init invariant-loop decreases-loop
 loop-holds c =
     let args = c.before.before.before.args in
-    (reads_none args.tag args.file.now args.at args.numbers-1.now args.to, omega arith, omega arith)
+    (reads_none args.tag args.file.now args.at args.numbers.now args.to, omega arith, omega arith)
 
 column-at-requires : tie.Need-column_at-width-requires invariant-loop decreases-loop
 column-at-requires c κs = search rules
@@ -96,7 +96,7 @@ returns : tie.Need-returns invariant-loop decreases-loop
 returns c =
     let now = c.before in
     let args = now.before.before.before.before.args in
-    reads_all args.tag args.file.now args.at args.numbers-1.now args.to now.loop-place.place now.loop-place.byte
+    reads_all args.tag args.file.now args.at args.numbers.now args.to now.loop-place.place now.loop-place.byte
     now.loop-place.invariant.0
     (omega (arith, c.loop-place-test.false, ap (λ form. form.columns) now.before.form_of-columns.ensures))
 

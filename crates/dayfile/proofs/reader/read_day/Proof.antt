@@ -14,7 +14,7 @@ tested k =
     let args = walk.before.before.before.before.args in
     record {
       file = args.file.now;
-      lent = args.lent-1.now;
+      lent = args.lent.now;
       numbers = _;
       walk = _;
       walked = walk.walk_file-walk.ensures;

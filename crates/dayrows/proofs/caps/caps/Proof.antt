@@ -120,7 +120,7 @@ returns-2 c =
       ← placed.row_place-start.ensures.0,
       ← searched.first_difference.ensures.0,
       le-leb _ _ found.before.if-first_difference-key.false,
-      ← found.cap_of-cap.ensures,
+      ← found.cap-of.ensures,
     )
     c.all_under.ensures
 

@@ -17,15 +17,15 @@ use Rattle.dayruns.proofs.row.see_entry_row.Tie as tie
 -- the field is there, and so is the place of its row
 ready : (c : tie.Else-not-is_ready)
     → let args = c.before.before.before.before.args in
-    Ready args.file.now Entry args.at args.to (length args.numbers-1.now)
+    Ready args.file.now Entry args.at args.to (length args.numbers.now)
 ready c = let asked = c.before.is_ready in asked.ensures (not-false asked.result c.if-not-is_ready.false)
 
 room : (c : tie.Else-not-is_ready)
     → let args = c.before.before.before.before.args in
-    BodyRoom Entry args.file.now (record { byte = args.at + 3; to = args.to; kept = true }) args.numbers-1.now
+    BodyRoom Entry args.file.now (record { byte = args.at + 3; to = args.to; kept = true }) args.numbers.now
 room c =
     let args = c.before.before.before.before.args in
-    ready-room args.file.now Entry args.at args.to true args.numbers-1.now (ready c)
+    ready-room args.file.now Entry args.at args.to true args.numbers.now (ready c)
 
 is-ready-requires : tie.Need-is_ready-requires
 is-ready-requires c κs = search rules

@@ -27,7 +27,7 @@ form-of-requires c κs = search rules
 loop-holds : tie.Need-loop-place-init invariant-loop decreases-loop
 loop-holds c =
     let args = c.before.before.before.args in
-    (lays-none (col args.numbers.now) args.tag args.from args.block-1.now args.at, omega arith, omega arith)
+    (lays-none (col args.numbers.now) args.tag args.from args.block.now args.at, omega arith, omega arith)
 
 column-at-requires : tie.Need-column_at-width-requires invariant-loop decreases-loop
 column-at-requires c κs = search rules
@@ -75,7 +75,7 @@ loop-again c =
     let turn = column.before in
     let now = turn.before in
     let args = now.before.before.before.before.args in (
-      lays-next (col args.numbers.now) args.tag args.from args.block-1.now args.at now.loop-place.place now.loop-place.byte
+      lays-next (col args.numbers.now) args.tag args.from args.block.now args.at now.loop-place.place now.loop-place.byte
           now.loop-place.invariant.0 (inside turn) column.column_at-width.ensures number.number_of_lem.ensures put.put_number.ensures,
       omega (arith, turn.loop-place-test.true),
       omega (arith, now.loop-place.invariant.2, narrow args.tag now.loop-place.place, ap (λ column. column.width) column.column_at-width.ensures),
@@ -88,7 +88,7 @@ returns : tie.Need-returns invariant-loop decreases-loop
 returns c =
     let now = c.before in
     let args = now.before.before.before.before.args in
-    lays_all (col args.numbers.now) args.tag args.from args.block-1.now args.at now.loop-place.place now.loop-place.byte
+    lays_all (col args.numbers.now) args.tag args.from args.block.now args.at now.loop-place.place now.loop-place.byte
     now.loop-place.invariant.0
     (omega (arith, c.loop-place-test.false, ap (λ form. form.columns) now.before.form_of-columns.ensures))
 

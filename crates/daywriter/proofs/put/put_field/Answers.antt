@@ -12,5 +12,5 @@ overflow_cast-form-2 c =
 pub returns : goal.returns
 returns c =
     let args = c.args in
-    field-laid args.tag _ args.block-1.now args.at c.form_of-form.ensures c.put_number.ensures
+    field-laid args.tag _ args.block.now args.at c.form_of-form.ensures c.put_number.ensures
     c.put_number-2.ensures c.put_body.ensures

@@ -77,8 +77,8 @@ returns c =
     let start = start_of c.before in
     let args = start.args in
     let all : now.row ≡ args.day.counts.points = le_antisymm now.invariant.0 c.loop-row-test.false in (
-      subst (λ many. Laid (joined many (point_lines args.day.counts (col args.numbers.now))) args.text-1.now args.at
-          now.size now.text-1) all now.invariant.2,
+      subst (λ many. Laid (joined many (point_lines args.day.counts (col args.numbers.now))) args.text.now args.at
+          now.size now.text) all now.invariant.2,
       omega (arith, now.invariant.1, all, few start),
     )
 
