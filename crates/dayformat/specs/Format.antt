@@ -87,15 +87,15 @@ key Excused = 1
 -- ---- tags 4, 5 and 9 name only what is listed before: the place of a key in the row, and the tag of the rows that list it
 infix 70 ◌is_a◌
 abbrev pub ◌is_a◌ : ℕ → Tag → Name
-place is-a tag = record { place = place; tag = tag }
+place is_a tag = record { place = place; tag = tag }
 
 abbrev pub names : Tag → List Name
 names Head = []
 names Shipper = []
 names Point = []
-names Entry = 0 is-a Point ∷ 2 is-a Shipper ∷ []
-names Meter = 0 is-a Shipper ∷ []
-names Excused = 0 is-a Meter ∷ []
+names Entry = 0 is_a Point ∷ 2 is_a Shipper ∷ []
+names Meter = 0 is_a Shipper ∷ []
+names Excused = 0 is_a Meter ∷ []
 
 -- ---- the firm and the auction MDQ: the place of an MDQ in the row, and that of its schedule
 infix 70 ◌for◌
@@ -124,7 +124,7 @@ cap Meter = no_cap
 cap Excused = record { many = 11 + 24 + 24; place = 1; under = 3 }
 
 abbrev pub first_name : Tag → Name
-first_name tag = get_or (names tag) 0 (0 is-a Head)
+first_name tag = get_or (names tag) 0 (0 is_a Head)
 
 -- ---- the tables in file order; the head comes before them and has none
 abbrev pub file_order : List Tag

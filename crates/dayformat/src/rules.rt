@@ -36,7 +36,7 @@ const NO_NAME: Name = Name {
 };
 
 pub fn names_of(tag: Tag) -> [Name; NAMES]
-    ensures { result ≡ filled_up 2 (0 is-a Tag.Head) (names tag) }
+    ensures { result ≡ filled_up 2 (0 is_a Tag.Head) (names tag) }
 {
     match tag {
         Tag::Head => [NO_NAME, NO_NAME],

@@ -11,10 +11,10 @@ share_accepted-requires c =
 
 pub returns-in-Refused : goal.returns-in-Refused
 returns-in-Refused c =
-    refuses _ c.args.firm.now c.args.auction.now c.args.lower-tier.now _
+    refuses _ c.args.firm.now c.args.auction.now c.args.lower_tier.now _
     (sym c.examine_day-found.ensures ∙ c.in-Refused.is)
 
 pub returns-in-Accepted : goal.returns-in-Accepted
 returns-in-Accepted c =
-    shares_out _ c.args.firm.now c.args.auction.now c.args.lower-tier.now _ _ _ _
+    shares_out _ c.args.firm.now c.args.auction.now c.args.lower_tier.now _ _ _ _
     (sym c.examine_day-found.ensures ∙ c.in-Accepted.is) c.share_accepted.ensures

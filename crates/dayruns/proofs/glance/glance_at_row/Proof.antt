@@ -28,10 +28,10 @@ kept c = not-false (read_of c).see_row.result c.before.if-not-see_row.false
 
 -- its names stand not far
 near : (c : tie.After-names_of-names) (next : ℕ) → next < 2
-    → (start_of c).args.to + (get_or c.names_of-names.result next (0 is-a Head)).place < 2 ^ 44
+    → (start_of c).args.to + (get_or c.names_of-names.result next (0 is_a Head)).place < 2 ^ 44
 near c next l =
-    let is = ap (λ list. (get_or list next (0 is-a Head)).place) c.names_of-names.ensures in
-    omega (arith, (start_of c).requires.1, names-near (start_of c).args.tag next (0 is-a Head) l, is)
+    let is = ap (λ list. (get_or list next (0 is_a Head)).place) c.names_of-names.ensures in
+    omega (arith, (start_of c).requires.1, names-near (start_of c).args.tag next (0 is_a Head) l, is)
 
 -- where both names are found, the row of the first
 abbrev first-of-names : tie.Else-count_of-second → tie.After-row_keyed_from-first
@@ -43,7 +43,7 @@ named-of c = c.before.before.before.before
 found : (c : tie.Else-count_of-second)
     → let first = first-of-names c in
     first.row_keyed_from-first.result
-    < count (start_of (named-of first)).args.counts (get_or (named-of first).names_of-names.result 0 (0 is-a Head)).tag
+    < count (start_of (named-of first)).args.counts (get_or (named-of first).names_of-names.result 0 (0 is_a Head)).tag
 found c = let there = c.before.before in omega (arith, there.if-count_of-first.false, there.before.count_of.ensures)
 
 see-row-requires : tie.Need-see_row-requires
@@ -67,7 +67,7 @@ add-row-keyed-from c = omega (arith, near c.before.before.before 0 (omega arith)
 row-keyed-from-requires : tie.Need-row_keyed_from-first-requires
 row-keyed-from-requires c κs =
     let named = c.before.before.before in
-    name-inside (read_of named).see_row.ensures (kept named) (start_of named).requires.0 named.names_of-names.ensures 0 (0 is-a Head)
+    name-inside (read_of named).see_row.ensures (kept named) (start_of named).requires.0 named.names_of-names.ensures 0 (0 is_a Head)
     (omega arith)
 
 array-copy-out-other : tie.Need-bounds-names-1
@@ -79,7 +79,7 @@ add-row-keyed-from-2 c = omega (arith, near c.before.before.before.before.before
 row-keyed-from-requires-2 : tie.Need-row_keyed_from-second-requires
 row-keyed-from-requires-2 c κs =
     let named = c.before.before.before.before.before.before.before in
-    name-inside (read_of named).see_row.ensures (kept named) (start_of named).requires.0 named.names_of-names.ensures 1 (0 is-a Head)
+    name-inside (read_of named).see_row.ensures (kept named) (start_of named).requires.0 named.names_of-names.ensures 1 (0 is_a Head)
     (omega arith)
 
 count-of-requires : tie.Need-count_of-requires
@@ -113,7 +113,7 @@ returns-3 c =
 is-under-requires : tie.Need-is_under-requires
 is-under-requires c κs =
     let named = named-of (first-of-names c.before) in
-    caps-inside (read_of named).see_row.ensures (kept named) (start_of named).pre.0 named.names_of-names.ensures (0 is-a Head)
+    caps-inside (read_of named).see_row.ensures (kept named) (start_of named).pre.0 named.names_of-names.ensures (0 is_a Head)
     (found c.before)
 
 same-length-4 : tie.Need-shape_of-numbers
@@ -133,10 +133,10 @@ returns-4 c =
     let other = second.row_keyed_from-second.ensures (omega (arith, on.if-count_of-second.false, counted.count_of-2.ensures)) in (
       kept named,
       refl,
-      both-named start.args.counts _ start.args.tag start.args.row start.pre.0 (0 is-a Head) named.names_of-names.ensures
+      both-named start.args.counts _ start.args.tag start.args.row start.pre.0 (0 is_a Head) named.names_of-names.ensures
           (keyed-listed start.args.counts _ _ _ _ (found on) same)
           (keyed-listed start.args.counts _ _ _ _ (omega (arith, on.if-count_of-second.false, counted.count_of-2.ensures)) other),
-      first-caps start.args.counts _ start.args.tag start.args.row start.pre.0 (0 is-a Head) named.names_of-names.ensures
+      first-caps start.args.counts _ start.args.tag start.args.row start.pre.0 (0 is_a Head) named.names_of-names.ensures
           (found on) same (c.is_under.ensures yes),
     ))
 

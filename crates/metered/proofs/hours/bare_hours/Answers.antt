@@ -10,9 +10,9 @@ pub loop-hour-init : goal.loop-hour-init
 loop-hour-init c = (search rules, filling_none _ _)
 
 pub loop-hour-preserved : goal.loop-hour-preserved
-loop-hour-preserved c = (search rules, filling_next _ _ _ _ _ c.loop-hour.invariant.1 (figure_at c.args.t1 _))
+loop-hour-preserved c = (search rules, filling_next _ _ _ _ _ c.loop-hour.invariant.1 (figure_at c.args.row _))
 
 pub returns : goal.returns
 returns c =
-    filled (replicate 24 0) _ 24 (search rules) (length-figures c.args.t1 ∙ c.well-formed.0.1.0.1) c.loop-hour.invariant.1
+    filled (replicate 24 0) _ 24 (search rules) (length-figures c.args.row ∙ c.well-formed.0.1.0.1) c.loop-hour.invariant.1
     c.loop-hour.invariant.0 c.loop-hour-test.false

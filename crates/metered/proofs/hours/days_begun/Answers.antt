@@ -11,10 +11,10 @@ pub loop-hour-init : goal.loop-hour-init
 loop-hour-init c = (search rules, filling_none _ _)
 
 pub loop-hour-preserved : goal.loop-hour-preserved
-loop-hour-preserved c = (search rules, filling_next _ _ _ _ _ c.loop-hour.invariant.1 (figure_at c.args.t1 _))
+loop-hour-preserved c = (search rules, filling_next _ _ _ _ _ c.loop-hour.invariant.1 (figure_at c.args.yesterday _))
 
 pub returns : goal.returns
 returns c =
-    let yesterday = c.args.t1 in
+    let yesterday = c.args.yesterday in
     written (replicate 35 0) (bare_hours yesterday) 11 (length-figures yesterday ∙ c.well-formed.0.1.0.1) c.loop-hour.invariant.1
     c.loop-hour.invariant.0 c.loop-hour-test.false

@@ -19,13 +19,13 @@ day c =
       p = c.args.p;
       m = c.args.m;
       yesterday = c.args.yesterday;
-      hours = c.args.t4;
+      hours = c.args.hours;
       receipt = c.args.receipt;
       delivery = c.args.delivery;
     }
 
 abbrev excused : tie.Start → ExcusedHours
-excused c = record { yesterday = c.args.excused-yesterday; hours = c.args.t8 }
+excused c = record { yesterday = c.args.excused_yesterday; hours = c.args.excused_hours }
 
 -- where both days' hours, metered and excused, are made
 abbrev listed : tie.After-then-found → tie.After-both_days-excused_both
@@ -49,8 +49,8 @@ checked c =
       found.examine_day.ensures,
       made.both_days-excused_both.ensures,
       made.before.before.both_days-both.ensures,
-      first-days start.args.yesterday (get_or start.args.t4 0 []) start.well-formed.1.1.0.1.0.1,
-      first-days start.args.excused-yesterday (get_or start.args.t8 0 []) start.well-formed.1.1.1.1.1.1.0.1.0.1,
+      first-days start.args.yesterday (get_or start.args.hours 0 []) start.well-formed.1.1.0.1.0.1,
+      first-days start.args.excused_yesterday (get_or start.args.excused_hours 0 []) start.well-formed.1.1.1.1.1.1.0.1.0.1,
     )
 
 abbrev tested : tie.After-then-found → Tested

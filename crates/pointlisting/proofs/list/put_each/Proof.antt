@@ -4,7 +4,7 @@ use Prim.Native.Nat.{◌-◌, ◌*◌, ◌^◌, ◌≤◌}
 use native.Mathlib.Nat.{le_antisymm}
 use native.Mathlib.Omega.{arith}
 use Rattle.columns.specs.Column.{col, joined}
-use Rattle.text-1.specs.Text.{Laid}
+use Rattle.text.specs.Text.{Laid}
 use Rattle.lines.proofs.Texts.{texts_none, texts_more, laid-long}
 use Rattle.dayformat.specs.declared.form.Tag.TheVariants.{Point}
 use Rattle.pointlisting.specs.PointsText.{point_lines}

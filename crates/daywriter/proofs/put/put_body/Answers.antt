@@ -1,0 +1,51 @@
+use mathlib.Core.Path.{ap}
+use Prim.Native.Nat.{◌-◌, ◌<◌}
+use native.Mathlib.Omega.{arith}
+use Rattle.columns.specs.Column.{col}
+use Rattle.dayformat.specs.Format.{form}
+use Rattle.dayformat.proofs.Small.{small, narrow}
+use Rattle.daywriter.proofs.RowLaying.{lays-none, lays-next, lays_all}
+use Rattle.daywriter.proofs.put.put_body.Goals as goal
+
+pub loop-place-init : goal.loop-place-init
+loop-place-init c =
+    let args = c.args in
+    (lays-none (col args.numbers.now) args.tag args.from args.block.now args.at, omega arith, omega arith)
+
+pub overflow_add-from : goal.overflow_add-from
+overflow_add-from c =
+    let inside : c.loop-place.place < (form c.args.tag).columns = omega (arith, c.loop-place-test.true, ap (λ form. form.columns) c.form_of-columns.ensures) in
+    omega (arith, c.requires.0, inside, (small c.args.tag).columns)
+
+pub overflow_add-byte : goal.overflow_add-byte
+overflow_add-byte c =
+    let inside : c.loop-place.place < (form c.args.tag).columns = omega (arith, c.loop-place-test.true, ap (λ form. form.columns) c.form_of-columns.ensures) in
+    omega (
+      arith,
+      c.requires.1,
+      c.loop-place.invariant.2,
+      inside,
+      (small c.args.tag).columns,
+      narrow c.args.tag c.loop-place.place,
+      ap (λ c. c.width) c.column_at-width.ensures,
+    )
+
+pub loop-place-preserved : goal.loop-place-preserved
+loop-place-preserved c =
+    let inside : c.loop-place.place < (form c.args.tag).columns = omega (arith, c.loop-place-test.true, ap (λ form. form.columns) c.form_of-columns.ensures) in
+    let args = c.args in (
+      lays-next (col args.numbers.now) args.tag args.from args.block.now args.at c.loop-place.place c.loop-place.byte
+          c.loop-place.invariant.0 inside.column_at-width.ensures c.number_of_lem.ensures c.put_number.ensures,
+      omega (arith, c.loop-place-test.true),
+      omega (arith, c.loop-place.invariant.2, narrow args.tag c.loop-place.place, ap (λ c. c.width) c.column_at-width.ensures),
+    )
+
+pub shape_of-block : goal.shape_of-block
+shape_of-block c = c.loop-place.invariant.0.long
+
+pub returns : goal.returns
+returns c =
+    let args = c.args in
+    lays_all (col args.numbers.now) args.tag args.from args.block.now args.at c.loop-place.place c.loop-place.byte
+    c.loop-place.invariant.0
+    (omega (arith, c.loop-place-test.false, ap (λ form. form.columns) c.form_of-columns.ensures))

@@ -1,0 +1,39 @@
+-- A refused file is refused by its own fault; a day that is read is listed.
+use Prim.Native.Nat.{ℕ}
+use lib.ListN.{length-replicate}
+use Rattle.columns.specs.Column.{col}
+use Rattle.dayfile.proofs.Reaching.{full_room}
+use Rattle.listings.proofs.Listing.{lists-refusal, part-inside, part_long, lists-day}
+use Rattle.pointlisting.specs.PointsText.{points_text}
+use Rattle.pointlisting.proofs.FileLists.{reads_part}
+use Rattle.pointlisting.proofs.list.list_points.Goals as goal
+
+pub slice_bounds-numbers-end : goal.slice_bounds-numbers-end
+slice_bounds-numbers-end c =
+    let given = c.reading-in-Read-1.given in
+    rw c.numbers_of-count.ensures.0
+    (part-inside c.args.file.now _ _ given.0.0 (rw given.1 at c.read_day-reading.ensures) c.read_day-reading.auto.1.0)
+
+pub slice_bounds-list_day-end : goal.slice_bounds-list_day-end
+slice_bounds-list_day-end c =
+    let given = c.reading-in-Read-1.given in
+    rw c.numbers_of-count.ensures.0
+    (part_long c.args.file.now _ _ given.0.0 (rw given.1 at c.read_day-reading.ensures) c.read_day-reading.auto.1.0)
+
+pub list_day-requires : goal.list_day-requires
+list_day-requires c =
+    let given = c.reading-in-Read-1.given in
+    rw c.numbers_of-count.ensures.0
+    (reads_part c.args.file.now _ _ given.0.0 (rw given.1 at c.read_day-reading.ensures))
+
+pub returns-in-Refused : goal.returns-in-Refused
+returns-in-Refused c =
+    lists-refusal _ _ _ (length-replicate {A = ℕ} full_room 0) _
+    (rw c.in-Refused.is at c.read_day-reading.ensures) _ _
+
+pub returns-in-Read : goal.returns-in-Read
+returns-in-Read c =
+    let given = c.reading-in-Read-1.given in
+    lists-day c.args.file.now _ _ given.0.0 (rw given.1 at c.read_day-reading.ensures)
+    (λ day numbers. points_text day (col numbers))
+    (rw c.numbers_of-count.ensures.0 at c.list_day.ensures)

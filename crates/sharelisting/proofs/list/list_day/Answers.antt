@@ -1,0 +1,24 @@
+-- A sound day is shared, and the shared lists make its text.
+use Rattle.dayformat.specs.declared.form.Tag.TheVariants.{Shipper}
+use Rattle.dayrows.specs.Private.{Sound}
+use Rattle.sharelisting.proofs.TextIs.{never_refused, text_is}
+use Rattle.sharelisting.proofs.list.list_day.Goals as goal
+
+pub lay_shares-requires : goal.lay_shares-requires
+lay_shares-requires c =
+    let sound-of : Sound c.args.day c.args.numbers.now = c.requires in
+    sound-of.few Shipper
+
+pub returns-in-Refused : goal.returns-in-Refused
+returns-in-Refused c =
+    let sound-of : Sound c.args.day c.args.numbers.now = c.requires in
+    never_refused c.args.day c.args.numbers.now sound-of.share_numbers-shared.ensures _
+    c.in-Refused.is
+
+pub returns-in-Shared : goal.returns-in-Shared
+returns-in-Shared c =
+    let sound-of : Sound c.args.day c.args.numbers.now = c.requires in
+    let is =
+    text_is c.args.day c.args.numbers.now sound-of.share_numbers-shared.ensures _
+    c.in-Shared.is
+    in rw is at c.lay_shares.ensures
