@@ -44,20 +44,20 @@ unfolding first_from
 body_filled tag =
     filled_is 5 (0 of none) (body tag) (leb-true _ _ (passes-every (λ tag. leb (length (body tag)) 5) refl (omega arith) tag))
 
-pub names_filled : (tag : Tag) → filled_up 2 (0 is-a Head) (names tag) ≡ names tag ++ replicate (2 - length (names tag)) (0 is-a Head)
+pub names_filled : (tag : Tag) → filled_up 2 (0 is_a Head) (names tag) ≡ names tag ++ replicate (2 - length (names tag)) (0 is_a Head)
 unfolding first_from
 names_filled tag =
-    filled_is 2 (0 is-a Head) (names tag) (leb-true _ _ (passes-every (λ tag. leb (length (names tag)) 2) refl (omega arith) tag))
+    filled_is 2 (0 is_a Head) (names tag) (leb-true _ _ (passes-every (λ tag. leb (length (names tag)) 2) refl (omega arith) tag))
 
 pub mdqs_filled : (tag : Tag) → filled_up 2 (0 for 0) (mdqs tag) ≡ mdqs tag ++ replicate (2 - length (mdqs tag)) (0 for 0)
 unfolding first_from
 mdqs_filled tag =
     filled_is 2 (0 for 0) (mdqs tag) (leb-true _ _ (passes-every (λ tag. leb (length (mdqs tag)) 2) refl (omega arith) tag))
 
-pub first_filled : (tag : Tag) (past : Name) → get_or (filled_up 2 (0 is-a Head) (names tag)) 0 past ≡ first_name tag
+pub first_filled : (tag : Tag) (past : Name) → get_or (filled_up 2 (0 is_a Head) (names tag)) 0 past ≡ first_name tag
 first_filled tag past = by (names tag)
   where
-    by : (list : List Name) → get_or (filled_up 2 (0 is-a Head) list) 0 past ≡ get_or list 0 (0 is-a Head)
+    by : (list : List Name) → get_or (filled_up 2 (0 is_a Head) list) 0 past ≡ get_or list 0 (0 is_a Head)
     by [] = refl
     by (name ∷ rest) = refl
 

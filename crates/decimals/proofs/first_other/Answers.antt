@@ -10,11 +10,11 @@ loop-place-init c = searched_none _ _
 
 pub returns-then-not-is_digit : goal.returns-then-not-is_digit
 returns-then-not-is_digit c =
-    stops _ _ _ c.loop-place.invariant c.loop-place-test.true (ap not (sym c.is_digit.ensures) ∙ c.if-not-is_digit.true)
+    stops _ _ _ c.loop-place.invariant c.loop-place-test.true (rw (← c.is_digit.ensures, c.if-not-is_digit.true))
 
 pub loop-place-preserved : goal.loop-place-preserved
 loop-place-preserved c =
-    searched_more _ _ _ c.loop-place.invariant c.loop-place-test.true (ap not (sym c.is_digit.ensures) ∙ c.if-not-is_digit.false)
+    searched_more _ _ _ c.loop-place.invariant c.loop-place-test.true (rw (← c.is_digit.ensures, c.if-not-is_digit.false))
 
 pub returns : goal.returns
 returns c = ends _ _ _ c.loop-place.invariant c.loop-place-test.false

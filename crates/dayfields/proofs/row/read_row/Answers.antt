@@ -22,7 +22,7 @@ overflow_add-byte c =
     omega (
       arith,
       c.requires.0,
-      c.well-formed.0.1,
+      c.well_formed.0.1,
       c.loop-place.invariant.2,
       inside,
       (small c.args.tag).columns,
@@ -34,7 +34,7 @@ pub loop-place-preserved : goal.loop-place-preserved
 loop-place-preserved c =
     let inside : c.loop-place.place < (form c.args.tag).columns = omega (arith, c.loop-place-test.true, ap (λ form. form.columns) c.form_of-columns.ensures) in (
       reads_next c.args.tag c.args.file.now c.args.at c.args.numbers.now c.args.to
-          c.loop-place.place c.loop-place.byte c.loop-place.invariant.0 inside.column_at-width.ensures
+          c.loop-place.place c.loop-place.byte c.loop-place.invariant.0 inside c.column_at-width.ensures
           c.number_at.ensures c.put.ensures,
       omega (arith, c.loop-place-test.true),
       omega (

@@ -11,7 +11,7 @@ returns-then-left-several c =
     let long : length c.body_of-body.result ≡ 5 = ap length c.body_of-body.ensures ∙ length_filled 5 (0 of none) (body c.args.tag) in
     let there : c.loop-next.next < length c.body_of-body.result = omega (arith, c.loop-next-test.true, long) in
     let is : column_in c.body_of-body.result c.args.place ≡ column_in (body c.args.tag) c.args.place = rw c.body_of-body.ensures (column_filled c.args.tag c.args.place) in
-    sym (column-here c.body_of-body.result c.loop-next.next _ _ there.if-left-several.true)
+    sym (column-here c.body_of-body.result c.loop-next.next _ _ there c.if-left-several.true)
     ∙ c.loop-next.invariant.0
     ∙ is
 
@@ -19,7 +19,7 @@ pub loop-next-preserved : goal.loop-next-preserved
 loop-next-preserved c =
     let long : length c.body_of-body.result ≡ 5 = ap length c.body_of-body.ensures ∙ length_filled 5 (0 of none) (body c.args.tag) in
     let there : c.loop-next.next < length c.body_of-body.result = omega (arith, c.loop-next-test.true, long) in (
-      sym (column-after c.body_of-body.result c.loop-next.next _ _ there.if-left-several.false) ∙ c.loop-next.invariant.0,
+      sym (column-after c.body_of-body.result c.loop-next.next _ _ there c.if-left-several.false) ∙ c.loop-next.invariant.0,
       omega (arith, c.loop-next-test.true),
     )
 

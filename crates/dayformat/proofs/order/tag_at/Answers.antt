@@ -7,4 +7,4 @@ use Rattle.dayformat.specs.Format.{file_order}
 use Rattle.dayformat.proofs.order.tag_at.Goals as goal
 
 pub returns-in_default : goal.returns-in_default
-returns-in_default c = sym (get_or-eq_default file_order Head {n = c.args.place} (omega (arith, c.in-0.rest)))
+returns-in_default c = sym (get_or-eq_default file_order Head {n = c.args.place} (omega arith))

@@ -19,7 +19,7 @@ pub overflow_add-from : goal.overflow_add-from
 overflow_add-from c =
     let ready : let args = c.args in Ready args.file.now Entry args.at args.to (length args.numbers.now) = let asked = c.is_ready in asked.ensures (not-false asked.result c.if-not-is_ready.false) in
     let room : let args = c.args in BodyRoom Entry args.file.now (record { byte = args.at + 3; to = args.to; kept = true }) args.numbers.now = let args = c.args in ready-room args.file.now Entry args.at args.to true args.numbers.now ready in
-    omega (arith, room.0, c.well-formed.1.0.0)
+    omega (arith, room.0, c.well_formed.1.0.0)
 
 pub read_entry-read-requires : goal.read_entry-read-requires
 read_entry-read-requires c =

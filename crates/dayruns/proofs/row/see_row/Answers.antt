@@ -16,7 +16,7 @@ pub overflow_add-from : goal.overflow_add-from
 overflow_add-from c =
     let ready : let args = c.args in Ready args.file.now args.tag args.at args.to (length args.numbers.now) = let asked = c.is_ready in asked.ensures (not-false asked.result c.if-not-is_ready.false) in
     let room : let args = c.args in BodyRoom args.tag args.file.now (record { byte = args.at + 3; to = args.to; kept = true }) args.numbers.now = let args = c.args in ready-room args.file.now args.tag args.at args.to true args.numbers.now ready in
-    omega (arith, room.0, c.well-formed.1.0.0)
+    omega (arith, room.0, c.well_formed.1.0.0)
 
 pub read_body-kept-requires : goal.read_body-kept-requires
 read_body-kept-requires c =
@@ -37,5 +37,5 @@ is_fed-requires c =
 pub returns : goal.returns
 returns c =
     let ready : let args = c.args in Ready args.file.now args.tag args.at args.to (length args.numbers.now) = let asked = c.is_ready in asked.ensures (not-false asked.result c.if-not-is_ready.false) in
-    row_read _ _ _ _ _ _ c.requires.0 ready.read_body-kept.ensures c.is_next-next.ensures
+    row_read _ _ _ _ _ _ c.requires.0 ready c.read_body-kept.ensures c.is_next-next.ensures
     c.is_fed.ensures (c.both-2.ensures ∙ rw c.both.ensures)

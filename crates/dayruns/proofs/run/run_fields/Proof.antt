@@ -91,7 +91,7 @@ add-place c =
     let begins = took.before.before in
     let now = begins.before.before in
     let there = going_there (fields (start_of now)) _ now.loop-source.invariant.0 (on begins) took.take_near-step.ensures c.before.if-fault-ne0.false in
-    omega (arith, there, size_is now.before.before, (start_of now).well-formed.1.1.0.0)
+    omega (arith, there, size_is now.before.before, (start_of now).well_formed.1.1.0.0)
 
 add-to : tie.Need-overflow_add-to invariant-loop decreases-loop
 add-to c =

@@ -1,12 +1,13 @@
-use mathlib.Core.Path.{◌∙◌}
-use mathlib.Core.Bool.{true}
-use Prim.Native.Nat.{◌-◌, ◌≤◌}
+use mathlib.Core.Path.{sym, ◌∙◌}
+use mathlib.Core.Bool.{true≢false}
+use Prim.Native.Nat.{◌≤◌}
 use native.Mathlib.Nat.{le_antisymm}
 use native.Mathlib.Omega.{arith}
 use borrow.Author.Tests.{le-ltb}
-use Rattle.columns.proofs.Firsts.{searched_none, searched_more, ends, kept-passed}
+use Rattle.columns.proofs.Firsts.{searched_none, searched_more, ends}
 use Rattle.metered.specs.Excused.{both_have}
 use Rattle.metered.proofs.excused.excused_keep.Goals as goal
+use Rattle.metered.proofs.excused.excused_keep.Goals.{then-metered-hour, else-metered-hour}
 
 pub loop-hour-init : goal.loop-hour-init
 loop-hour-init c = (λ e. searched_none _ _, c.lesser-hour-end.ensures)
@@ -14,9 +15,12 @@ loop-hour-init c = (λ e. searched_none _ _, c.lesser-hour-end.ensures)
 pub loop-hour-preserved : goal.loop-hour-preserved
 loop-hour-preserved c =
     let now = c.loop-hour in (
-      λ e.
-          let kept = kept-passed c.if-metered-hour.branch e in
-          searched_more _ _ _ (now.invariant.0 kept.1) (omega (arith, c.loop-hour-test.true, now.invariant.1)) (le-ltb _ _ kept.0.left),
+      λ e. elim c.if-metered-hour.branch [
+        | then-metered-hour w ↦ absurd (true≢false (sym e ∙ w.kept-is))
+        | else-metered-hour w ↦
+            searched_more _ _ _ (now.invariant.0 (sym w.kept-is ∙ e)) (omega (arith, c.loop-hour-test.true, now.invariant.1))
+            (le-ltb _ _ w.if-metered-hour.false)
+      ],
       now.invariant.1,
     )
 

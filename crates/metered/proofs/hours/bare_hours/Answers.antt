@@ -1,5 +1,4 @@
 use mathlib.Core.Path.{◌∙◌}
-use Prim.Native.Nat.{◌-◌}
 use borrow.Author.Rules.{rules}
 use lib.ListN.{replicate}
 use Rattle.columns.proofs.Lists.{filling_none, filling_next}
@@ -14,5 +13,5 @@ loop-hour-preserved c = (search rules, filling_next _ _ _ _ _ c.loop-hour.invari
 
 pub returns : goal.returns
 returns c =
-    filled (replicate 24 0) _ 24 (search rules) (length-figures c.args.row ∙ c.well-formed.0.1.0.1) c.loop-hour.invariant.1
+    filled (replicate 24 0) _ 24 (search rules) (length-figures c.args.row ∙ c.well_formed.0.1.0.1) c.loop-hour.invariant.1
     c.loop-hour.invariant.0 c.loop-hour-test.false

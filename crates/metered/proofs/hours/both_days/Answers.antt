@@ -1,4 +1,3 @@
-use Prim.Native.Nat.{◌-◌}
 use borrow.Author.Rules.{rules}
 use lib.ListN.{replicate}
 use Rattle.metered.proofs.Rows.{following-none, following-next, following-all, figure_at}
@@ -15,4 +14,4 @@ loop-hour-preserved c =
 pub returns : goal.returns
 returns c =
     following-all _ c.args.today (replicate 35 0) c.args.yesterday c.loop-hour.invariant.1 c.loop-hour-test.false
-    c.loop-hour.invariant.0 c.well-formed.0.1.0.1 c.well-formed.1.0.1.0.1 (search rules) c.days_begun-hours.ensures
+    c.loop-hour.invariant.0 c.well_formed.0.1.0.1 c.well_formed.1.0.1.0.1 (search rules) c.days_begun-hours.ensures

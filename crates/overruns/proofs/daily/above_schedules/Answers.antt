@@ -27,7 +27,7 @@ overflow_add-metered c = omega (arith, metered-most c)
 
 pub overflow_add-scheduled : goal.overflow_add-scheduled
 overflow_add-scheduled c =
-    omega (arith, scheduled c.args.side c.in_megajoules.ensures c.in_megajoules-2.ensures, c.well-formed.1.0)
+    omega (arith, scheduled c.args.side c.in_megajoules.ensures c.in_megajoules-2.ensures, c.well_formed.1.0)
 
 pub returns : goal.returns
 returns c =

@@ -45,7 +45,7 @@ checked c =
     rw (
       c.examine_day-found.ensures,
       made.both_days-both.ensures,
-      first-days start.args.yesterday (get_or start.args.hours 0 []) start.well-formed.1.1.0.1.0.1,
+      first-days start.args.yesterday (get_or start.args.hours 0 []) start.well_formed.1.1.0.1.0.1,
     )
     (sym (check-nothing (day start)))
 

@@ -49,8 +49,8 @@ checked c =
       found.examine_day.ensures,
       made.both_days-excused_both.ensures,
       made.before.before.both_days-both.ensures,
-      first-days start.args.yesterday (get_or start.args.hours 0 []) start.well-formed.1.1.0.1.0.1,
-      first-days start.args.excused_yesterday (get_or start.args.excused_hours 0 []) start.well-formed.1.1.1.1.1.1.0.1.0.1,
+      first-days start.args.yesterday (get_or start.args.hours 0 []) start.well_formed.1.1.0.1.0.1,
+      first-days start.args.excused_yesterday (get_or start.args.excused_hours 0 []) start.well_formed.1.1.1.1.1.1.0.1.0.1,
     )
 
 abbrev tested : tie.After-then-found → Tested

@@ -55,7 +55,7 @@ entries-of-point-requires c κs = search rules
 add-put-hour : tie.Need-overflow_add-at
 add-put-hour c =
     let put = c.before.before.before.before in
-    omega (arith, put.put_title-size.ensures.1, (start_of put).requires.2, (start_of put).well-formed.1.1.1.1.1.0)
+    omega (arith, put.put_title-size.ensures.1, (start_of put).requires.2, (start_of put).well_formed.1.1.1.1.1.0)
 
 put-hour-requires : tie.Need-put_hour-requires
 put-hour-requires c κs = search rules

@@ -4,7 +4,7 @@ use Rattle.rounds.proofs.Searches.{bracket_start, bracket_up, bracket_down, brac
 use Rattle.rounds.proofs.level.search.Goals as goal
 
 pub loop-low-init : goal.loop-low-init
-loop-low-init c = (bracket_start _ _ _ _ c.requires.1, omega arith)
+loop-low-init c = (bracket_start _ _ _ _ c.requires.capacity_bound, omega arith)
 
 pub loop-low-preserved-then-pass-capacity : goal.loop-low-preserved-then-pass-capacity
 loop-low-preserved-then-pass-capacity c =

@@ -1,8 +1,8 @@
-use mathlib.Core.Logic.{⊎_elim}
 use Prim.Native.Nat.{◌-◌}
 use native.Mathlib.Omega.{arith}
 use Rattle.columns.proofs.Sums.{adding_none, adding_next, adding_bound, adding_all}
 use Rattle.rounds.proofs.pass.pass_at.Goals as goal
+use Rattle.rounds.proofs.pass.pass_at.Goals.{then-share-need, else-share-need}
 
 pub loop-row-init : goal.loop-row-init
 loop-row-init c = (adding_none _ _, omega arith)
@@ -29,7 +29,7 @@ pub loop-row-preserved : goal.loop-row-preserved
 loop-row-preserved c =
     let weight = c.requires.0.weights c.loop-row.row c.loop-row-test.true in (
       adding_next _ _ c.loop-row.invariant.0 c.loop-row-test.true c.share_at-share.ensures,
-      ⊎_elim (λ w. omega arith) (λ w. omega arith) c.if-share-need.branch,
+      elim c.if-share-need.branch [ then-share-need w ↦ omega arith | else-share-need w ↦ omega arith ],
     )
 
 pub returns : goal.returns

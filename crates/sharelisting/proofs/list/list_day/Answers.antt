@@ -12,13 +12,13 @@ lay_shares-requires c =
 pub returns-in-Refused : goal.returns-in-Refused
 returns-in-Refused c =
     let sound-of : Sound c.args.day c.args.numbers.now = c.requires in
-    never_refused c.args.day c.args.numbers.now sound-of.share_numbers-shared.ensures _
+    never_refused c.args.day c.args.numbers.now sound-of c.share_numbers-shared.ensures _
     c.in-Refused.is
 
 pub returns-in-Shared : goal.returns-in-Shared
 returns-in-Shared c =
     let sound-of : Sound c.args.day c.args.numbers.now = c.requires in
     let is =
-    text_is c.args.day c.args.numbers.now sound-of.share_numbers-shared.ensures _
+    text_is c.args.day c.args.numbers.now sound-of c.share_numbers-shared.ensures _
     c.in-Shared.is
     in rw is at c.lay_shares.ensures
