@@ -1,8 +1,4 @@
-use mathlib.Core.Path.{ap, sym, ◌∙◌}
-use mathlib.Core.Bool.{not}
-use Prim.Native.Nat.{◌-◌}
 use Rattle.columns.proofs.Firsts.{searched_none, searched_more, stops, ends}
-use Rattle.decimals.specs.Word.{is_digit}
 use Rattle.decimals.proofs.first_other.Goals as goal
 
 pub loop-place-init : goal.loop-place-init

@@ -1,4 +1,3 @@
-use Prim.Native.Nat.{◌-◌}
 use Rattle.decimals.proofs.Spelling.{spelled_none, spelled-more, spelled-all}
 use Rattle.decimals.proofs.value_up_to.Goals as goal
 

@@ -1,33 +1,58 @@
-use mathlib.Core.Path.{◌∙◌}
-use mathlib.Core.List.{[]}
-use Prim.Native.Nat.{◌+◌, ◌-◌}
+use mathlib.Core.Path.{◌≡◌, ◌∙◌}
+use mathlib.Core.List.{List, []}
+use Prim.Native.Nat.{ℕ, ◌+◌, ◌-◌, ◌<◌, max}
 use lib.ListN.{get_or}
-use Rattle.columns.proofs.Sums.{adding_none, adding_next}
+use Rattle.columns.proofs.Sums.{Adding, adding_none, adding_next}
+use Rattle.units.specs.declared.Megajoules.{Megajoules}
 use Rattle.metered.specs.Hours.{delivered, received}
 use Rattle.metered.proofs.Rows.{figure_at}
 use Rattle.metered.proofs.Comparing.{compared_at}
-use Rattle.excesses.proofs.Excesses.{hours_fit, all-hours}
+use Rattle.excesses.proofs.Excesses.{greater_excess, hours_fit, all-hours}
 use Rattle.overruns.proofs.hourly.hourly.Invariants.{taken, brought}
 use Rattle.overruns.proofs.hourly.hourly.Goals as goal
+
+-- an hour's figure on a side
+abbrev figure : List (List Megajoules) → ℕ → ℕ → ℕ
+figure rows side hour = (get_or (get_or rows side []) hour (record { 0 = 0 })).0
+
+-- a turn adds the hour's excess
+turn : (hours excused : List (List Megajoules)) {most_delivered most_received hour total over : ℕ}
+    → Adding 24 (greater_excess (taken hours excused) (brought hours excused) most_delivered most_received) hour total → hour < 24
+    → over ≡ max (figure hours 0 hour - figure excused 0 hour - most_delivered) (figure hours 1 hour - figure excused 1 hour - most_received)
+    → Adding 24 (greater_excess (taken hours excused) (brought hours excused) most_delivered most_received) (hour + 1) (total + over)
+turn hours excused {hour = hour} A to e =
+    adding_next _ _ A to
+    (e
+    ∙ rw (
+      compared_at (delivered hours) (delivered excused) hour,
+      compared_at (received hours) (received excused) hour,
+      figure_at (get_or hours 0 []) hour,
+      figure_at (get_or hours 1 []) hour,
+      figure_at (get_or excused 0 []) hour,
+      figure_at (get_or excused 1 []) hour,
+    ))
 
 pub loop-hour-init : goal.loop-hour-init
 loop-hour-init c = adding_none _ _
 
 pub overflow_add-total : goal.overflow_add-total
 overflow_add-total c =
-    let turn : let args = c.args in invariant-loop args.t2 args.t3 c.thousandths-most_delivered.result c.thousandths-most_received.result 0 0 (c.loop-hour.total + c.greater-over.result.0) (c.loop-hour.hour + 1) = let args = c.args in let hour = c.loop-hour.hour in adding_next _ _ c.loop-hour.invariant c.loop-hour-test.true (c.greater-over.ensures ∙ rw (c.excess-in-loop-hour.ensures, c.excess.ensures, c.excess-received.ensures, c.excess-delivered.ensures, compared_at (delivered args.t2) (delivered args.t3) hour, compared_at (received args.t2) (received args.t3) hour, figure_at (get_or args.t2 0 []) hour, figure_at (get_or args.t2 1 []) hour, figure_at (get_or args.t3 0 []) hour, figure_at (get_or args.t3 1 []) hour)) in
+    let hours = c.args.hours in
+    let excused = c.args.excused in
     record {
-      fits = hours_fit (taken c.args.hours c.args.excused) (brought c.args.hours c.args.excused) _ _ c.requires
-          turn;
+      fits =
+          hours_fit (taken hours excused) (brought hours excused) _ _ c.requires
+          (turn hours excused c.loop-hour.invariant c.loop-hour-test.true
+          (c.greater-over.ensures ∙ rw (c.excess-in-loop-hour.ensures, c.excess.ensures, c.excess-received.ensures, c.excess-delivered.ensures)));
     }
 
 pub loop-hour-preserved : goal.loop-hour-preserved
 loop-hour-preserved c =
-    let turn : let args = c.args in invariant-loop args.t2 args.t3 c.thousandths-most_delivered.result c.thousandths-most_received.result 0 0 (c.loop-hour.total + c.greater-over.result.0) (c.loop-hour.hour + 1) = let args = c.args in let hour = c.loop-hour.hour in adding_next _ _ c.loop-hour.invariant c.loop-hour-test.true (c.greater-over.ensures ∙ rw (c.excess-in-loop-hour.ensures, c.excess.ensures, c.excess-received.ensures, c.excess-delivered.ensures, compared_at (delivered args.t2) (delivered args.t3) hour, compared_at (received args.t2) (received args.t3) hour, figure_at (get_or args.t2 0 []) hour, figure_at (get_or args.t2 1 []) hour, figure_at (get_or args.t3 0 []) hour, figure_at (get_or args.t3 1 []) hour)) in
-    turn
+    turn c.args.hours c.args.excused c.loop-hour.invariant c.loop-hour-test.true
+    (c.greater-over.ensures ∙ rw (c.excess-in-loop-hour.ensures, c.excess.ensures, c.excess-received.ensures, c.excess-delivered.ensures))
 
 pub returns : goal.returns
 returns c =
     let args = c.args in
-    all-hours (taken args.t2 args.t3) (brought args.t2 args.t3) _ _ args.m.0 c.loop-hour.invariant c.loop-hour-test.false
+    all-hours (taken args.hours args.excused) (brought args.hours args.excused) _ _ args.m.0 c.loop-hour.invariant c.loop-hour-test.false
     c.thousandths-most_delivered.ensures.0 c.thousandths-most_received.ensures.0

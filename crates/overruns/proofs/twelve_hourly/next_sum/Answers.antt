@@ -10,14 +10,14 @@ use Rattle.overruns.proofs.twelve_hourly.next_sum.Goals as goal
 
 pub overflow_add-sum : goal.overflow_add-sum
 overflow_add-sum c =
-    let low = c.requires.0.1 in
-    let most : c.args.0 ≤ 12 * most_hour = omega (arith, c.requires.1, gas-most (col c.args.hours.now) low 12) in
+    let low = c.requires.hours_len.1 in
+    let most : c.args.before.0 ≤ 12 * most_hour = omega (arith, c.requires.before_value, gas-most (col c.args.hours.now) low 12) in
     record { fits = lt_of_le_of_lt (add-le-add most (low _)) (omega arith) }
 
 pub overflow_sub-sum : goal.overflow_sub-sum
 overflow_sub-sum c =
-    le_trans (row_le_sum 12 (col c.args.hours.now) _ (omega arith)) (omega (arith, c.requires.1))
+    le_trans (row_le_sum 12 (col c.args.hours.now) _ (omega arith)) (omega (arith, c.requires.before_value))
 
 pub returns : goal.returns
 returns c =
-    omega (arith, c.requires.1, simp zero-add at (sum_rolled (col c.args.hours.now) 0 12))
+    omega (arith, c.requires.before_value, simp zero-add at (sum_rolled (col c.args.hours.now) 0 12))
