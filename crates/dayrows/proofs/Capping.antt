@@ -54,7 +54,7 @@ cap-fits tag =
     by false some e = inr (fits_is tag (first_name tag) e)
 
 -- the array of a tag's names begins with its first
-pub first_of : (tag : Tag) {list : _} → list ≡ filled_up 2 (0 is-a Head) (names tag) → (past : Name) → get_or list 0 past ≡ first_name tag
+pub first_of : (tag : Tag) {list : _} → list ≡ filled_up 2 (0 is_a Head) (names tag) → (past : Name) → get_or list 0 past ≡ first_name tag
 first_of tag is past = rw is (first_filled tag past)
 
 -- ---- numbers none of which is above the other

@@ -24,18 +24,18 @@ use Rattle.dayrows.proofs.Enough.{listed_by}
 
 module _ (counts : Counts) (f : ℕ → ℕ) (at : ℕ) where
   -- the head's key is empty, so it is listed wherever it is looked for
-  nothing-listed : (k : ℕ) → names_listed counts f at (replicate k (0 is-a Head)) ≡ true
+  nothing-listed : (k : ℕ) → names_listed counts f at (replicate k (0 is_a Head)) ≡ true
   unfolding names_listed
   nothing-listed zero = refl
   nothing-listed (suc k) =
       rw (listed_by counts f Head 0 (at + 0) (omega arith) (λ place l. absurd (omega (arith, l)))) (nothing-listed k)
 
-  listed_more : (list : List Name) (k : ℕ) → names_listed counts f at (list ++ replicate k (0 is-a Head)) ≡ names_listed counts f at list
+  listed_more : (list : List Name) (k : ℕ) → names_listed counts f at (list ++ replicate k (0 is_a Head)) ≡ names_listed counts f at list
   unfolding names_listed
   listed_more [] k = nothing-listed k
   listed_more (name ∷ rest) k = rw (listed_more rest k)
 
-  pub listed_filled : (tag : Tag) → names_listed counts f at (filled_up 2 (0 is-a Head) (names tag)) ≡ named counts f tag at
+  pub listed_filled : (tag : Tag) → names_listed counts f at (filled_up 2 (0 is_a Head) (names tag)) ≡ named counts f tag at
   listed_filled tag = rw (names_filled tag) (listed_more (names tag) (2 - length (names tag)))
 
   -- the names from one on: all are listed where the first is and those after it are
@@ -86,10 +86,10 @@ module _ (f : ℕ → ℕ) (at : ℕ) where
     idle-next e = rw (drop-cons list next past l, e, add-one)
 
 -- ---- the places of a row's names are near its begin
-pub names-near : (tag : Tag) (next : ℕ) (past : Name) → next < 2 → (get_or (filled_up 2 (0 is-a Head) (names tag)) next past).place ≤ 68
+pub names-near : (tag : Tag) (next : ℕ) (past : Name) → next < 2 → (get_or (filled_up 2 (0 is_a Head) (names tag)) next past).place ≤ 68
 unfolding first_from
 names-near tag next past l =
     leb-true _ _
-    (all_at (λ name. leb name.place 68) (filled_up 2 (0 is-a Head) (names tag))
-    (passes-every (λ tag. all_of (λ name. leb name.place 68) (filled_up 2 (0 is-a Head) (names tag))) refl (omega arith) tag) next past
+    (all_at (λ name. leb name.place 68) (filled_up 2 (0 is_a Head) (names tag))
+    (passes-every (λ tag. all_of (λ name. leb name.place 68) (filled_up 2 (0 is_a Head) (names tag))) refl (omega arith) tag) next past
     (rw length_filled l))

@@ -88,17 +88,17 @@ rows_inside counts tag other row room ends (inr t) i l =
 
 module _ {counts : Counts} {file : List ℕ} {tag : Tag} {at row : ℕ} {lent after : List ℕ} {kept : Bool}
     (R : RowRead counts file tag at row lent after kept) (k : kept ≡ true) {to : ℕ} (here : to ≡ row_start counts tag row)
-    {list : List Name} (is : list ≡ filled_up 2 (0 is-a Head) (names tag)) where
+    {list : List Name} (is : list ≡ filled_up 2 (0 is_a Head) (names tag)) where
   pub name-inside : (next : ℕ) (past : Name) → next < 2
       → KeysInside counts (get_or list next past).tag (to + (get_or list next past).place) after
   unfolding first_from
   name-inside next past l =
-      let name = get_or (filled_up 2 (0 is-a Head) (names tag)) next past in
+      let name = get_or (filled_up 2 (0 is_a Head) (names tag)) next past in
       let fits =
       both (leb (name.place + (form name.tag).key) (form tag).columns)
       (cond (ltb (table_place name.tag) (table_place tag)) true (eqb (tag_byte name.tag) (tag_byte Head)))
-      (all_at (sits tag) (filled_up 2 (0 is-a Head) (names tag))
-      (passes-every (λ tag. all_of (sits tag) (filled_up 2 (0 is-a Head) (names tag))) refl (omega arith) tag) next past
+      (all_at (sits tag) (filled_up 2 (0 is_a Head) (names tag))
+      (passes-every (λ tag. all_of (sits tag) (filled_up 2 (0 is_a Head) (names tag))) refl (omega arith) tag) next past
       (rw length_filled l))
       in let near = leb-true (name.place + (form name.tag).key) (form tag).columns fits.0 in
       rw is (
@@ -137,17 +137,17 @@ module _ (counts : Counts) (f : ℕ → ℕ) where
   both-listed at (x ∷ y ∷ z ∷ rest) past long one two = absurd (omega (arith, long))
 
   pub both-named : (tag : Tag) (row : ℕ) {to : ℕ} → to ≡ row_start counts tag row → {list : List Name} (past : Name)
-      → list ≡ filled_up 2 (0 is-a Head) (names tag) → Found to (get_or list 0 past) → Found to (get_or list 1 past)
+      → list ≡ filled_up 2 (0 is_a Head) (names tag) → Found to (get_or list 0 past) → Found to (get_or list 1 past)
       → named counts f tag (row_start counts tag row) ≡ true
   both-named tag row {to} here {list} past is one two =
       ap (named counts f tag) (sym here)
       ∙ sym (listed_filled counts f to tag)
       ∙ ap (names_listed counts f to) (sym is)
-      ∙ both-listed to list past (ap length is ∙ length_filled 2 (0 is-a Head) (names tag)) one two
+      ∙ both-listed to list past (ap length is ∙ length_filled 2 (0 is_a Head) (names tag)) one two
 
   -- and where the row of the first caps the row's numbers, it keeps under them
   pub first-caps : (tag : Tag) (row : ℕ) {to : ℕ} → to ≡ row_start counts tag row → {list : List Name} (past : Name)
-      → list ≡ filled_up 2 (0 is-a Head) (names tag) → {other : ℕ} → other < count counts (get_or list 0 past).tag
+      → list ≡ filled_up 2 (0 is_a Head) (names tag) → {other : ℕ} → other < count counts (get_or list 0 past).tag
       → keyed counts f (get_or list 0 past).tag (to + (get_or list 0 past).place) other ≡ true
       → under_cap counts f tag (get_or list 0 past).tag to other ≡ true → capped counts f tag (row_start counts tag row) ≡ true
   first-caps tag row {to} here {list} past is {other} l same under =

@@ -6,4 +6,4 @@ pub returns-in-File : goal.returns-in-File
 returns-in-File c = rw c.in-File.is c.is_capped.ensures
 
 pub returns-in-Side : goal.returns-in-Side
-returns-in-Side c = rw (c.in-Side.is, ← c.number_of_lem.ensures)
+returns-in-Side c = rw (c.in-Side.is, ← c.number_of.ensures)

@@ -3,4 +3,4 @@
 use Rattle.pointentries.proofs.is_of.Goals as goal
 
 pub returns : goal.returns
-returns c = rw c.number_of_lem.ensures
+returns c = rw c.number_of.ensures

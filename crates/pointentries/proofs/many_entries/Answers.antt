@@ -1,3 +1,5 @@
+use mathlib.Core.Path.{ap}
+use mathlib.Core.Bool.{not}
 use Prim.Native.Nat.{◌-◌}
 use native.Mathlib.Omega.{arith}
 use Rattle.columns.proofs.Firsts.{searched_none, searched_more, stops, ends}
@@ -9,14 +11,14 @@ loop-more-init c = searched_none _ _
 pub returns-then-not-is_of : goal.returns-then-not-is_of
 returns-then-not-is_of c =
     let inv = c.loop-more.invariant in (
-      stops _ _ _ inv (omega (arith, c.loop-more-test.true)) (rw (← c.is_of.ensures) c.if-not-is_of.true),
+      stops _ _ _ inv (omega (arith, c.loop-more-test.true)) (rw (← c.is_of.ensures) (ap not c.if-not-is_of.true)),
       omega (arith, inv.inside),
     )
 
 pub loop-more-preserved : goal.loop-more-preserved
 loop-more-preserved c =
     searched_more _ _ _ c.loop-more.invariant (omega (arith, c.loop-more-test.true))
-    (rw (← c.is_of.ensures) c.if-not-is_of.false)
+    (rw (← c.is_of.ensures) (ap not c.if-not-is_of.false))
 
 pub returns : goal.returns
 returns c =

@@ -24,7 +24,7 @@ returns-then-number-column c =
     rw (← inv.0)
     (sym
     (not_clear _ _ _ inv.1 c.loop-place-test.true
-    (rw (← column.ensures, ← c.number_of_lem.ensures) (below-low column.result _ c.if-number-column.true))))
+    (rw (← column.ensures, ← c.number_of-number.ensures) (below-low column.result _ c.if-number-column.true))))
 
 pub returns-then-column-number : goal.returns-then-column-number
 unfolding bounded
@@ -34,7 +34,7 @@ returns-then-column-number c =
     rw (← inv.0)
     (sym
     (not_clear _ _ _ inv.1 c.loop-place-test.true
-    (rw (← column.ensures, ← c.number_of_lem.ensures) (above-high column.result _ c.if-number-column.false c.if-column-number.true))))
+    (rw (← column.ensures, ← c.number_of-number.ensures) (above-high column.result _ c.if-number-column.false c.if-column-number.true))))
 
 pub loop-place-preserved : goal.loop-place-preserved
 loop-place-preserved c =
@@ -42,7 +42,7 @@ loop-place-preserved c =
     let inv = c.loop-place.invariant in (
       inv.0,
       searched_more _ _ _ inv.1 c.loop-place-test.true
-          (rw (← column.ensures, ← c.number_of_lem.ensures) (between column.result _ c.if-number-column.false c.if-column-number.false)),
+          (rw (← column.ensures, ← c.number_of-number.ensures) (between column.result _ c.if-number-column.false c.if-column-number.false)),
     )
 
 pub returns : goal.returns

@@ -14,12 +14,12 @@ unfolding all_under
 returns-then-number_of c =
     sym
     (not_clear _ _ _ c.loop-place.invariant c.loop-place-test.true
-    (rw (← c.number_of_lem.ensures, ← c.number_of-in-loop-place.ensures) (lt-ltb _ _ c.if-number_of.true)))
+    (rw (← c.number_of.ensures, ← c.number_of-in-loop-place.ensures) (lt-ltb _ _ c.if-number_of.true)))
 
 pub loop-place-preserved : goal.loop-place-preserved
 loop-place-preserved c =
     searched_more _ _ _ c.loop-place.invariant c.loop-place-test.true
-    (rw (← c.number_of_lem.ensures, ← c.number_of-in-loop-place.ensures) (le-ltb _ _ c.if-number_of.false))
+    (rw (← c.number_of.ensures, ← c.number_of-in-loop-place.ensures) (le-ltb _ _ c.if-number_of.false))
 
 pub returns : goal.returns
 unfolding all_under

@@ -13,7 +13,7 @@ use Rattle.dayrows.proofs.caps.caps.Goals as goal
 pub overflow_add-at : goal.overflow_add-at
 overflow_add-at c =
     let first : get_or c.names_of-names.result 0 (0 is_a Head) ≡ first_name c.args.tag = first_of c.args.tag c.names_of-names.ensures (0 is_a Head) in
-    omega (arith, (cap-inside c.args.tag).name-1, ap (λ name. name.place) first, c.requires)
+    omega (arith, (cap-inside c.args.tag).name, ap (λ name. name.place) first, c.requires)
 
 pub first_difference-requires : goal.first_difference-requires
 first_difference-requires c =
@@ -25,7 +25,7 @@ first_difference-requires c =
       short.key,
       short.columns,
       c.row_place-start.ensures.1,
-      (cap-inside c.args.tag).name-1,
+      (cap-inside c.args.tag).name,
       ap (λ name. name.place) first,
       c.requires,
     )
@@ -45,7 +45,7 @@ returns-then-first_difference-key c =
 pub overflow_add-at-2 : goal.overflow_add-at-2
 overflow_add-at-2 c =
     let capped = cap-inside c.args.tag in
-    omega (arith, ap (λ cap. cap.place) c.cap_of-cap.ensures, capped.inside, (small c.args.tag).columns, c.pre)
+    omega (arith, ap (λ cap. cap.place) c.cap_of-cap.ensures, capped.inside, (small c.args.tag).columns, c.requires)
 
 pub overflow_add-start : goal.overflow_add-start
 overflow_add-start c =
@@ -71,7 +71,7 @@ all_under-requires c =
       (small c.args.tag).columns,
       (small (first_name c.args.tag).tag).columns,
       c.row_place-start.ensures.1,
-      c.pre,
+      c.requires,
     )
 
 pub returns : goal.returns

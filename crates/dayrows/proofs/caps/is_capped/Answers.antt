@@ -1,5 +1,5 @@
 use mathlib.Core.Path.{◌≡◌, ap, sym, ◌∙◌}
-use mathlib.Core.Bool.{true}
+use mathlib.Core.Bool.{true, not}
 use Prim.Native.Nat.{◌+◌, ◌-◌}
 use native.Mathlib.Omega.{arith}
 use lib.ListN.{get_or}
@@ -17,18 +17,18 @@ use Rattle.dayrows.proofs.caps.is_capped.Goals as goal
 pub overflow_add-at : goal.overflow_add-at
 overflow_add-at c =
     let first : get_or c.names_of-names.result 0 (0 is_a Head) ≡ first_name c.args.tag = first_of c.args.tag c.names_of-names.ensures (0 is_a Head) in
-    omega (arith, (cap-inside c.args.tag).name-1, ap (λ name. name.place) first, c.requires)
+    omega (arith, (cap-inside c.args.tag).name, ap (λ name. name.place) first, c.requires)
 
 pub lists-requires : goal.lists-requires
 lists-requires c =
     let first : get_or c.names_of-names.result 0 (0 is_a Head) ≡ first_name c.args.tag = first_of c.args.tag c.names_of-names.ensures (0 is_a Head) in
-    omega (arith, (cap-inside c.args.tag).name-1, ap (λ name. name.place) first, c.requires)
+    omega (arith, (cap-inside c.args.tag).name, ap (λ name. name.place) first, c.requires)
 
 pub returns-then-not-lists : goal.returns-then-not-lists
 unfolding capped
 returns-then-not-lists c =
     let first : get_or c.names_of-names.result 0 (0 is_a Head) ≡ first_name c.args.tag = first_of c.args.tag c.names_of-names.ensures (0 is_a Head) in
-    rw (← first, ← c.lists.ensures, not-true c.lists.result c.if-not-lists.true)
+    rw (← first, ← c.lists.ensures, not-true c.lists.result (ap not c.if-not-lists.true))
 
 pub loop-row-init : goal.loop-row-init
 loop-row-init c =
@@ -39,7 +39,7 @@ pub returns-then-caps : goal.returns-then-caps
 unfolding capped
 returns-then-caps c =
     let first : get_or c.names_of-names.result 0 (0 is_a Head) ≡ first_name c.args.tag = first_of c.args.tag c.names_of-names.ensures (0 is_a Head) in
-    let listed : let args = c.args in let name = first_name args.tag in lists args.counts (col args.numbers.now) name.tag (args.at + name.place) ≡ true = rw (← first, ← c.lists.ensures) (not-false c.lists.result c.if-not-lists.false) in
+    let listed : let args = c.args in let name = first_name args.tag in lists args.counts (col args.numbers.now) name.tag (args.at + name.place) ≡ true = rw (← first, ← c.lists.ensures) (not-false c.lists.result (ap not c.if-not-lists.false)) in
     let inv = c.loop-row.invariant in
     rw (listed, ← inv.0)
     (sym (found _ _ _ inv.1 c.loop-row-test.true (sym c.caps.ensures ∙ c.if-caps.true)))
@@ -55,6 +55,6 @@ pub returns : goal.returns
 unfolding capped
 returns c =
     let first : get_or c.names_of-names.result 0 (0 is_a Head) ≡ first_name c.args.tag = first_of c.args.tag c.names_of-names.ensures (0 is_a Head) in
-    let listed : let args = c.args in let name = first_name args.tag in lists args.counts (col args.numbers.now) name.tag (args.at + name.place) ≡ true = rw (← first, ← c.lists.ensures) (not-false c.lists.result c.if-not-lists.false) in
+    let listed : let args = c.args in let name = first_name args.tag in lists args.counts (col args.numbers.now) name.tag (args.at + name.place) ≡ true = rw (← first, ← c.lists.ensures) (not-false c.lists.result (ap not c.if-not-lists.false)) in
     let inv = c.loop-row.invariant in
     rw (listed, ← inv.0) (sym (missing _ _ _ inv.1 c.loop-row-test.false))

@@ -12,14 +12,14 @@ pub returns-then-number_of : goal.returns-then-number_of
 unfolding difference
 returns-then-number_of c = (
   stops _ _ _ c.loop-place.invariant c.loop-place-test.true
-      (rw (← c.number_of_lem.ensures, ← c.number_of-in-loop-place.ensures, ne_eqb _ _ c.if-number_of.true)),
+      (rw (← c.number_of.ensures, ← c.number_of-in-loop-place.ensures, ne_eqb _ _ c.if-number_of.true)),
   omega arith,
 )
 
 pub loop-place-preserved : goal.loop-place-preserved
 loop-place-preserved c =
     searched_more _ _ _ c.loop-place.invariant c.loop-place-test.true
-    (rw (← c.number_of_lem.ensures, ← c.number_of-in-loop-place.ensures, eq-eqb _ _ c.if-number_of.false))
+    (rw (← c.number_of.ensures, ← c.number_of-in-loop-place.ensures, eq-eqb _ _ c.if-number_of.false))
 
 pub returns : goal.returns
 unfolding difference

@@ -1,3 +1,4 @@
+use mathlib.Core.Bool.{not}
 use mathlib.Core.Path.{◌≡◌, ap, sym, ◌∙◌}
 use Prim.Native.Nat.{◌-◌, ◌≤◌}
 use native.Mathlib.Omega.{arith}
@@ -14,12 +15,12 @@ use Rattle.dayrows.proofs.keys.is_named.Goals as goal
 pub overflow_add-at : goal.overflow_add-at
 overflow_add-at c =
     let near : (get_or c.names_of-names.result c.loop-next.next (0 is_a Head)).place ≤ 68 = rw c.names_of-names.ensures (names-near c.args.tag _ _ c.loop-next-test.true) in
-    omega (arith, near, c.pre)
+    omega (arith, near, c.requires)
 
 pub lists-requires : goal.lists-requires
 lists-requires c =
     let near : (get_or c.names_of-names.result c.loop-next.next (0 is_a Head)).place ≤ 68 = rw c.names_of-names.ensures (names-near c.args.tag _ _ c.loop-next-test.true) in
-    omega (arith, near, c.pre)
+    omega (arith, near, c.requires)
 
 pub returns-then-not-lists : goal.returns-then-not-lists
 returns-then-not-lists c =
@@ -29,14 +30,14 @@ returns-then-not-lists c =
     (sym is
     ∙ sym c.loop-next.invariant.0
     ∙ unlisted _ _ _ c.names_of-names.result c.loop-next.next _ (omega (arith, c.loop-next-test.true, long))
-    (sym c.lists.ensures ∙ not-true c.lists.result c.if-not-lists.true))
+    (sym c.lists.ensures ∙ not-true c.lists.result (ap not c.if-not-lists.true)))
 
 pub loop-next-preserved : goal.loop-next-preserved
 loop-next-preserved c =
     let long : length c.names_of-names.result ≡ 2 = ap length c.names_of-names.ensures ∙ length_filled 2 (0 is_a Head) (names c.args.tag) in (
       sym
           (listed_next _ _ _ c.names_of-names.result c.loop-next.next _ (omega (arith, c.loop-next-test.true, long))
-          (sym c.lists.ensures ∙ not-false c.lists.result c.if-not-lists.false))
+          (sym c.lists.ensures ∙ not-false c.lists.result (ap not c.if-not-lists.false)))
           ∙ c.loop-next.invariant.0,
       omega (arith, c.loop-next-test.true),
     )

@@ -26,7 +26,7 @@ overflow_add-here c =
 
 pub returns-then-place-key : goal.returns-then-place-key
 returns-then-place-key c =
-    rw (c.number_of_lem.ensures, c.number_of-then-place-key.ensures)
+    rw (c.number_of.ensures, c.number_of-then-place-key.ensures)
     (rises_by _ _ _ _ _ _ _ (ap (λ c. c.key) c.form_of-key.ensures) c.first_difference-place.ensures.0
     _ c.if-row-eq0.false c.row_place-before.ensures.0 c.row_place-here.ensures.0 c.if-place-key.true)
 

@@ -23,7 +23,7 @@ inside c =
     let start = start_of c in
     let under = (cap-inside start.args.tag).under in
     ⊎_elim (λ none. absurd (c.if-cap-eq0.false (ap (λ cap. cap.many) c.before.before.cap_of-cap.ensures ∙ none)))
-    (λ room. omega (arith, room, rw (← start.pre.0) at under)) start.pre.3
+    (λ room. omega (arith, room, rw (← start.requires.0) at under)) start.requires.3
 
 own : (start : tie.Start)
     → let args = start.args in
@@ -36,7 +36,7 @@ here : (c : tie.After-form_of)
 here c =
     let start = start_of c.before.before in
     row_here start.args.counts start.args.named start.args.numbers.now start.args.at start.args.row
-    c.form_of.ensures c.before.row_place.ensures.0 start.pre.1
+    c.form_of.ensures c.before.row_place.ensures.0 start.requires.1
 
 cap-of-requires : tie.Need-cap_of-cap-requires
 cap-of-requires c κs = search rules

@@ -113,7 +113,7 @@ returns-3 c =
 is-under-requires : tie.Need-is_under-requires
 is-under-requires c κs =
     let named = named-of (first-of-names c.before) in
-    caps-inside (read_of named).see_row.ensures (kept named) (start_of named).pre.0 named.names_of-names.ensures (0 is_a Head)
+    caps-inside (read_of named).see_row.ensures (kept named) (start_of named).requires.0 named.names_of-names.ensures (0 is_a Head)
     (found c.before)
 
 same-length-4 : tie.Need-shape_of-numbers
@@ -133,10 +133,10 @@ returns-4 c =
     let other = second.row_keyed_from-second.ensures (omega (arith, on.if-count_of-second.false, counted.count_of-2.ensures)) in (
       kept named,
       refl,
-      both-named start.args.counts _ start.args.tag start.args.row start.pre.0 (0 is_a Head) named.names_of-names.ensures
+      both-named start.args.counts _ start.args.tag start.args.row start.requires.0 (0 is_a Head) named.names_of-names.ensures
           (keyed-listed start.args.counts _ _ _ _ (found on) same)
           (keyed-listed start.args.counts _ _ _ _ (omega (arith, on.if-count_of-second.false, counted.count_of-2.ensures)) other),
-      first-caps start.args.counts _ start.args.tag start.args.row start.pre.0 (0 is_a Head) named.names_of-names.ensures
+      first-caps start.args.counts _ start.args.tag start.args.row start.requires.0 (0 is_a Head) named.names_of-names.ensures
           (found on) same (c.is_under.ensures yes),
     ))
 

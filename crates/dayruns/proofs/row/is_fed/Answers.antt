@@ -14,32 +14,32 @@ use Rattle.dayruns.proofs.row.is_fed.Goals as goal
 pub overflow_add-at : goal.overflow_add-at
 overflow_add-at c =
     let inside : let pair = get_or c.mdqs_of-mdqs.result c.loop-next.next (0 for 0) in let columns = (form c.args.tag).columns in (pair.mdq < columns) × (pair.schedule < columns) = pair_inside c.args.tag c.mdqs_of-mdqs.ensures c.loop-next.next (0 for 0) c.loop-next-test.true in
-    omega (arith, inside.0, c.pre)
+    omega (arith, inside.0, c.requires)
 
 pub offset_bounds-numbers-at : goal.offset_bounds-numbers-at
 offset_bounds-numbers-at c =
     let inside : let pair = get_or c.mdqs_of-mdqs.result c.loop-next.next (0 for 0) in let columns = (form c.args.tag).columns in (pair.mdq < columns) × (pair.schedule < columns) = pair_inside c.args.tag c.mdqs_of-mdqs.ensures c.loop-next.next (0 for 0) c.loop-next-test.true in
-    omega (arith, inside.0, c.pre)
+    omega (arith, inside.0, c.requires)
 
 pub bounds-numbers-at : goal.bounds-numbers-at
 bounds-numbers-at c =
     let inside : let pair = get_or c.mdqs_of-mdqs.result c.loop-next.next (0 for 0) in let columns = (form c.args.tag).columns in (pair.mdq < columns) × (pair.schedule < columns) = pair_inside c.args.tag c.mdqs_of-mdqs.ensures c.loop-next.next (0 for 0) c.loop-next-test.true in
-    omega (arith, inside.0, c.pre)
+    omega (arith, inside.0, c.requires)
 
 pub overflow_add-at-in-loop-next : goal.overflow_add-at-in-loop-next
 overflow_add-at-in-loop-next c =
     let inside : let pair = get_or c.mdqs_of-mdqs.result c.loop-next.next (0 for 0) in let columns = (form c.args.tag).columns in (pair.mdq < columns) × (pair.schedule < columns) = pair_inside c.args.tag c.mdqs_of-mdqs.ensures c.loop-next.next (0 for 0) c.loop-next-test.true in
-    omega (arith, inside.1, c.pre)
+    omega (arith, inside.1, c.requires)
 
 pub offset_bounds-numbers-at-in-loop-next : goal.offset_bounds-numbers-at-in-loop-next
 offset_bounds-numbers-at-in-loop-next c =
     let inside : let pair = get_or c.mdqs_of-mdqs.result c.loop-next.next (0 for 0) in let columns = (form c.args.tag).columns in (pair.mdq < columns) × (pair.schedule < columns) = pair_inside c.args.tag c.mdqs_of-mdqs.ensures c.loop-next.next (0 for 0) c.loop-next-test.true in
-    omega (arith, inside.1, c.pre)
+    omega (arith, inside.1, c.requires)
 
 pub bounds-numbers-at-in-loop-next : goal.bounds-numbers-at-in-loop-next
 bounds-numbers-at-in-loop-next c =
     let inside : let pair = get_or c.mdqs_of-mdqs.result c.loop-next.next (0 for 0) in let columns = (form c.args.tag).columns in (pair.mdq < columns) × (pair.schedule < columns) = pair_inside c.args.tag c.mdqs_of-mdqs.ensures c.loop-next.next (0 for 0) c.loop-next-test.true in
-    omega (arith, inside.1, c.pre)
+    omega (arith, inside.1, c.requires)
 
 pub returns-then-is_idle : goal.returns-then-is_idle
 returns-then-is_idle c =

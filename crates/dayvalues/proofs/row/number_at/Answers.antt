@@ -3,4 +3,4 @@
 use Rattle.dayvalues.proofs.row.number_at.Goals as goal
 
 pub returns : goal.returns
-returns c = rw (← c.row_place.ensures.0) c.number_of_lem.ensures
+returns c = rw (← c.row_place.ensures.0) c.number_of.ensures

@@ -35,7 +35,7 @@ loop-place-preserved c =
     let inside : c.loop-place.place < (form c.args.tag).columns = omega (arith, c.loop-place-test.true, ap (λ form. form.columns) c.form_of-columns.ensures) in
     let args = c.args in (
       lays-next (col args.numbers.now) args.tag args.from args.block.now args.at c.loop-place.place c.loop-place.byte
-          c.loop-place.invariant.0 inside c.column_at-width.ensures c.number_of_lem.ensures c.put_number.ensures,
+          c.loop-place.invariant.0 inside c.column_at-width.ensures c.number_of-number.ensures c.put_number.ensures,
       omega (arith, c.loop-place-test.true),
       omega (arith, c.loop-place.invariant.2, narrow args.tag c.loop-place.place, ap (λ c. c.width) c.column_at-width.ensures),
     )

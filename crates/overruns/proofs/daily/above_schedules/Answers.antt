@@ -13,7 +13,7 @@ gas_of-requires c = (search rules, rw c.bare_hours-hours.ensures c.requires.0)
 pub overflow_add-metered : goal.overflow_add-metered
 overflow_add-metered c =
     let most : c.gas_of.result.0 ≤ 24 * most_hour =
-        day-gas-most _ c.bare_hours-hours.ensures c.gas_of.ensures (search rules) c.requires.0 in
+    day-gas-most _ c.bare_hours-hours.ensures c.gas_of.ensures (search rules) c.requires.0 in
     omega arith
 
 pub overflow_add-scheduled : goal.overflow_add-scheduled

@@ -1,19 +1,32 @@
-use Rattle.std.proofs.Common.{rules, ◌≡◌, ◌≤◌, ℕ, ◌+◌, ◌-◌, ◌*◌, ◌<◌, length, ◌/◌, ◌%◌, Bool, true, false, nat_eq, nat_lt, List, [], ◌∷◌, ◌++◌, slice_index_or, slice_set, bit_and, bit_or, Fits, w8, w32, w64, Bor, MutBor}
-use Rattle.columns.specs.Column.{col}
-use Rattle.units.specs.Bound.{most_backhaul}
-use Rattle.metered.specs.Hours.{bare_hours, delivered, received}
-use Rattle.metered.specs.Private.{Within, RowsWithin, BackhaulWithin}
-use Rattle.overruns.specs.Daily.{daily, both_daily, daily_answer}
+-- The overruns are worked out where both sides' figures and every hour are within their bounds.
+use mathlib.Core.Path.{◌≡◌, ◌∙◌}
+use mathlib.Core.List.{List}
+use Rattle.units.specs.declared.Megajoules.{Megajoules}
+use Rattle.units.specs.declared.refusal.Check.{Check}
+use Rattle.units.specs.Refusals.{◌then◌}
+use Rattle.metered.specs.declared.Side.{Side}
+use Rattle.metered.specs.Singles.{sides_check}
+use Rattle.metered.specs.Hours.{hours_check}
+use Rattle.overruns.specs.Daily.{daily_check}
+use Rattle.overruns.proofs.Accepting.{daily-accepting}
+use Rattle.overruns.proofs.Answers.{daily-refused, daily-accepted}
 use Rattle.overruns.proofs.daily.daily_overruns.Goals as goal
 
--- src/daily.rt:57:48
+-- what is found is the chain of tests as it is defined
+checked : (hours : List (List Megajoules)) (receipt delivery : Side) {sides rows found : Check} → sides ≡ sides_check receipt delivery
+    → rows ≡ hours_check hours → found ≡ (sides then rows) → daily_check hours receipt delivery ≡ found
+unfolding daily_check
+checked hours receipt delivery s h f = rw (f, s, h)
+
 pub both_daily-requires : goal.both_daily-requires
-both_daily-requires c = ?
+both_daily-requires c =
+    daily-accepting _ _ _ (checked _ _ _ c.examine_sides.ensures c.examine_hours.ensures c.then-found.ensures ∙ c.in-Accepted.is)
 
--- src/daily.rt:51:1
 pub returns-in-Refused : goal.returns-in-Refused
-returns-in-Refused c = ?
+returns-in-Refused c =
+    daily-refused _ _ (checked _ _ _ c.examine_sides.ensures c.examine_hours.ensures c.then-found.ensures ∙ c.in-Refused.is)
 
--- src/daily.rt:51:1
 pub returns-in-Accepted : goal.returns-in-Accepted
-returns-in-Accepted c = ?
+returns-in-Accepted c =
+    daily-accepted _ _ (checked _ _ _ c.examine_sides.ensures c.examine_hours.ensures c.then-found.ensures ∙ c.in-Accepted.is)
+    c.both_daily.ensures

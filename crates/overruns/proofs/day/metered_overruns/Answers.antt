@@ -1,33 +1,65 @@
-use Rattle.std.proofs.Common.{rules, ◌≡◌, length, ℕ, ◌+◌, ◌-◌, ◌*◌, ◌<◌, ◌≤◌, ◌/◌, ◌%◌, Bool, true, false, nat_eq, nat_lt, List, [], ◌∷◌, ◌++◌, slice_index_or, slice_set, bit_and, bit_or, Fits, w8, w32, w64, Bor, MutBor}
-use Rattle.columns.specs.Column.{col}
-use Rattle.excesses.specs.TwelveHourly.{twelve_hourly}
+-- With nothing excused every hour is compared as it was metered, and the tests of what is excused accept.
+use mathlib.Core.Path.{◌≡◌, refl, sym, ◌∙◌}
+use mathlib.Core.List.{List, [], ◌++◌}
+use Prim.Native.Nat.{ℕ}
+use borrow.Author.Rules.{rules}
+use lib.ListN.{length, take, get_or, replicate}
+use Rattle.units.specs.declared.Gigajoules.{Gigajoules}
+use Rattle.units.specs.declared.Megajoules.{Megajoules}
+use Rattle.units.specs.declared.refusal.Check.{Check}
 use Rattle.units.specs.Bound.{most_hour}
-use Rattle.units.specs.Refusals.{◌then◌}
+use Rattle.units.specs.Refusals.{◌then◌, within}
+use Rattle.metered.specs.declared.Side.{Side}
 use Rattle.metered.specs.Singles.{mdqs_check, sides_check}
-use Rattle.metered.specs.Hours.{delivered, received, hours_check}
-use Rattle.metered.specs.Private.{Within, RowsWithin, ComparedWithin, BackhaulWithin}
-use Rattle.overruns.specs.Daily.{daily}
-use Rattle.overruns.specs.Day.{with_greatest, day_answer}
-use Rattle.overruns.specs.Excused.{excused_hourly, excused_day_answer}
+use Rattle.metered.specs.Hours.{bare_hours, delivered, both_days, hours_check}
+use Rattle.metered.specs.Excused.{compared}
+use Rattle.metered.proofs.Rows.{first-days}
+use Rattle.metered.proofs.Comparing.{compared-all, zero-hours}
+use Rattle.overruns.specs.Day.{ShipperDay, day_check}
+use Rattle.overruns.specs.Excused.{nothing_excused, excused_day_check}
+use Rattle.overruns.proofs.Nothing.{check-nothing, day-nothing}
+use Rattle.overruns.proofs.WholeDay.{Tested, day-refused, day-fits, day-over}
 use Rattle.overruns.proofs.day.metered_overruns.Goals as goal
 
--- src/day.rt:113:31
-pub four_overruns-requires-clause-both_len : goal.four_overruns-requires-clause-both_len
-four_overruns-requires-clause-both_len c = ?
+-- the day is tested, both days' hours made
+module _ (p m : Gigajoules) (yesterday : List Megajoules) (hours : List (List Megajoules)) (receipt delivery : Side)
+    (eleven : length yesterday ≡ 11) {both : List ℕ} (joined : both ≡ both_days yesterday (get_or hours 0 [])) {found : Check}
+    (f : found ≡ (mdqs_check p m then sides_check receipt delivery then within most_hour (take 11 both) then hours_check hours)) where
+  abbrev day : ShipperDay
+  day = record { p = p; m = m; yesterday = yesterday; hours = hours; receipt = receipt; delivery = delivery }
 
--- src/day.rt:113:31
-pub four_overruns-requires-clause-compared_within :
-    goal.four_overruns-requires-clause-compared_within
-four_overruns-requires-clause-compared_within c = ?
+  -- what is found is the chain of tests as it is defined
+  checked : found ≡ excused_day_check day nothing_excused
+  unfolding day_check
+  checked = rw (f, joined, first-days yesterday (get_or hours 0 []) eleven) (sym (check-nothing day))
 
--- src/day.rt:113:31
-pub four_overruns-requires-clause-rows_within : goal.four_overruns-requires-clause-rows_within
-four_overruns-requires-clause-rows_within c = ?
+  abbrev tested : Tested
+  tested = record {
+    D = day;
+    E = nothing_excused;
+    both = both;
+    joined = joined;
+    excused_both = bare_hours nothing_excused.yesterday ++ delivered nothing_excused.hours;
+    excused_joined = refl;
+    found = found;
+    checked = checked;
+  }
 
--- src/day.rt:96:1
+same : (both : List ℕ) → both ≡ compared both (replicate 35 0)
+same both = sym (compared-all both (replicate 35 0) (zero-hours 35))
+
+pub four_overruns-requires : goal.four_overruns-requires
+four_overruns-requires c =
+    let T : Tested = tested _ _ c.args.yesterday _ _ _ (search rules) c.both_days-both.ensures c.examine_day-found.ensures in
+    let f = day-fits T c.in-Accepted.is (same c.both_days-both.result) (search rules) in
+    record { both_len = f.0; compared_within = f.1.0; rows_within = f.1.1 }
+
 pub returns-in-Refused : goal.returns-in-Refused
-returns-in-Refused c = ?
+returns-in-Refused c =
+    let T : Tested = tested _ _ c.args.yesterday _ _ _ (search rules) c.both_days-both.ensures c.examine_day-found.ensures in
+    day-refused T c.in-Refused.is ∙ day-nothing T.D
 
--- src/day.rt:96:1
 pub returns-in-Accepted : goal.returns-in-Accepted
-returns-in-Accepted c = ?
+returns-in-Accepted c =
+    let T : Tested = tested _ _ c.args.yesterday _ _ _ (search rules) c.both_days-both.ensures c.examine_day-found.ensures in
+    day-over T c.in-Accepted.is (same c.both_days-both.result) c.four_overruns.ensures ∙ day-nothing T.D

@@ -1,33 +1,89 @@
-use Rattle.std.proofs.Common.{rules, ◌≡◌, length, ℕ, ◌+◌, ◌-◌, ◌*◌, ◌<◌, ◌≤◌, ◌/◌, ◌%◌, Bool, true, false, nat_eq, nat_lt, List, [], ◌∷◌, ◌++◌, slice_index_or, slice_set, bit_and, bit_or, Fits, w8, w32, w64, Bor, MutBor}
-use Rattle.columns.specs.Column.{col}
-use Rattle.excesses.specs.TwelveHourly.{twelve_hourly}
+-- The four are worked out where every figure of the day is within its bound, and what is excused within its hour.
+use mathlib.Core.Path.{◌≡◌}
+use mathlib.Core.List.{List, []}
+use Prim.Native.Nat.{ℕ}
+use borrow.Author.Rules.{rules}
+use lib.ListN.{length, take, get_or}
+use Rattle.units.specs.declared.Gigajoules.{Gigajoules}
+use Rattle.units.specs.declared.Megajoules.{Megajoules}
+use Rattle.units.specs.declared.refusal.Check.{Check}
 use Rattle.units.specs.Bound.{most_hour}
-use Rattle.units.specs.Refusals.{◌then◌}
+use Rattle.units.specs.Refusals.{◌then◌, within}
+use Rattle.metered.specs.declared.Side.{Side}
 use Rattle.metered.specs.Singles.{mdqs_check, sides_check}
-use Rattle.metered.specs.Hours.{delivered, received, hours_check}
-use Rattle.metered.specs.Private.{Within, RowsWithin, ComparedWithin, BackhaulWithin}
-use Rattle.overruns.specs.Daily.{daily}
-use Rattle.overruns.specs.Day.{with_greatest, day_answer}
-use Rattle.overruns.specs.Excused.{excused_hourly, excused_day_answer}
+use Rattle.metered.specs.Hours.{both_days, hours_check}
+use Rattle.metered.specs.Excused.{excused_check, excused_hours_check}
+use Rattle.metered.proofs.Rows.{first-days}
+use Rattle.overruns.specs.Day.{ShipperDay, day_check}
+use Rattle.overruns.specs.Excused.{ExcusedHours, excused_day_check}
+use Rattle.overruns.proofs.WholeDay.{Tested, day-refused, day-fits, day-over}
 use Rattle.overruns.proofs.day.overruns_of_day.Goals as goal
 
--- src/day.rt:142:31
-pub four_overruns-requires-clause-both_len : goal.four_overruns-requires-clause-both_len
-four_overruns-requires-clause-both_len c = ?
+-- the day is tested, both days' hours made, metered and excused
+module _ (p m : Gigajoules) (yesterday : List Megajoules) (hours : List (List Megajoules)) (receipt delivery : Side)
+    (excused_yesterday : List Megajoules) (excused_hours : List (List Megajoules))
+    (eleven : length yesterday ≡ 11) (excused_eleven : length excused_yesterday ≡ 11) {both excused_both : List ℕ}
+    (joined : both ≡ both_days yesterday (get_or hours 0 []))
+    (excused_joined : excused_both ≡ both_days excused_yesterday (get_or excused_hours 0 []))
+    {metered less tests less_today found : Check}
+    (d : metered ≡ (mdqs_check p m then sides_check receipt delivery then within most_hour (take 11 both) then hours_check hours))
+    (l : less ≡ excused_check (take 11 both) (take 11 excused_both)) (t : tests ≡ (metered then less))
+    (h : less_today ≡ excused_hours_check hours excused_hours) (f : found ≡ (tests then less_today)) where
+  abbrev day : ShipperDay
+  day = record { p = p; m = m; yesterday = yesterday; hours = hours; receipt = receipt; delivery = delivery }
 
--- src/day.rt:142:31
-pub four_overruns-requires-clause-compared_within :
-    goal.four_overruns-requires-clause-compared_within
-four_overruns-requires-clause-compared_within c = ?
+  abbrev excused : ExcusedHours
+  excused = record { yesterday = excused_yesterday; hours = excused_hours }
 
--- src/day.rt:142:31
-pub four_overruns-requires-clause-rows_within : goal.four_overruns-requires-clause-rows_within
-four_overruns-requires-clause-rows_within c = ?
+  -- what is found is the chain of tests as it is defined
+  checked : found ≡ excused_day_check day excused
+  unfolding day_check excused_day_check
+  checked =
+      rw (
+        f,
+        h,
+        t,
+        l,
+        d,
+        excused_joined,
+        joined,
+        first-days yesterday (get_or hours 0 []) eleven,
+        first-days excused_yesterday (get_or excused_hours 0 []) excused_eleven,
+      )
 
--- src/day.rt:119:1
+  abbrev tested : Tested
+  tested = record {
+    D = day;
+    E = excused;
+    both = both;
+    joined = joined;
+    excused_both = excused_both;
+    excused_joined = excused_joined;
+    found = found;
+    checked = checked;
+  }
+
+pub four_overruns-requires : goal.four_overruns-requires
+four_overruns-requires c =
+    let T : Tested =
+    tested _ _ c.args.yesterday _ _ _ c.args.excused_yesterday _ (search rules) (search rules) c.both_days-both.ensures
+    c.both_days-excused_both.ensures c.examine_day.ensures c.examine_excused.ensures c.then.ensures c.examine_excused_hours.ensures
+    c.then-found.ensures in
+    let f = day-fits T c.in-Accepted.is c.compared_days-compared.ensures (search rules) in
+    record { both_len = f.0; compared_within = f.1.0; rows_within = f.1.1 }
+
 pub returns-in-Refused : goal.returns-in-Refused
-returns-in-Refused c = ?
+returns-in-Refused c =
+    let T : Tested =
+    tested _ _ c.args.yesterday _ _ _ c.args.excused_yesterday _ (search rules) (search rules) c.both_days-both.ensures
+    c.both_days-excused_both.ensures c.examine_day.ensures c.examine_excused.ensures c.then.ensures c.examine_excused_hours.ensures
+    c.then-found.ensures in
+    day-refused T c.in-Refused.is
 
--- src/day.rt:119:1
 pub returns-in-Accepted : goal.returns-in-Accepted
-returns-in-Accepted c = ?
+returns-in-Accepted c =
+    let T : Tested =
+    tested _ _ c.args.yesterday _ _ _ c.args.excused_yesterday _ (search rules) (search rules) c.both_days-both.ensures
+    c.both_days-excused_both.ensures c.examine_day.ensures c.examine_excused.ensures c.then.ensures c.examine_excused_hours.ensures
+    c.then-found.ensures in
+    day-over T c.in-Accepted.is c.compared_days-compared.ensures c.four_overruns.ensures

@@ -1,4 +1,3 @@
-use Prim.Native.Nat.{◌-◌}
 use borrow.Author.Rules.{rules}
 use lib.ListN.{replicate}
 use Rattle.columns.proofs.Lists.{filling_none, filling_next}

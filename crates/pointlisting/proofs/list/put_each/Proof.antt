@@ -34,16 +34,16 @@ add-put-point : tie.Need-overflow_add-at invariant-loop decreases-loop
 add-put-point c =
     let turn = c.before in
     let start = start_of turn.before in
-    omega (arith, turn.before.loop-row.invariant.1, turn.loop-row-test.true, few start, start.pre.1, start.good.1.1.1.1.0)
+    omega (arith, turn.before.loop-row.invariant.1, turn.loop-row-test.true, few start, start.requires.1, start.good.1.1.1.1.0)
 
 put-point-requires : tie.Need-put_point-size-requires invariant-loop decreases-loop
 put-point-requires c κs =
     let turn = c.before in
     let start = start_of turn.before in
     let now = turn.before.loop-row in (
-      start.pre.0,
+      start.requires.0,
       turn.loop-row-test.true,
-      omega (arith, now.invariant.1, turn.loop-row-test.true, few start, start.pre.1, laid-long now.invariant.2),
+      omega (arith, now.invariant.1, turn.loop-row-test.true, few start, start.requires.1, laid-long now.invariant.2),
     )
 
 add-size : tie.Need-overflow_add-size invariant-loop decreases-loop
