@@ -3,52 +3,55 @@
 
 use decimals::Decimal;
 use lines::Listing;
+use std::env::Env;
+use std::io::{Read, Result, Write};
+use streams::{BUFFER, LARGE_BUFFER};
 use units::{MOST_RATE, Rate, Refusal};
 
-fn main() {
-    let decimal = rate_asked();
+fn main(rt: HostRuntime) -> Result<()> {
+    let decimal = rate_asked(&rt);
     match decimal {
-        Decimal::Refused(refusal) => print_refusal(refusal),
-        Decimal::Number(rate) => print_charges(Rate(rate)),
+        Decimal::Refused(refusal) => print_refusal(&mut rt.stdout(), refusal),
+        Decimal::Number(rate) => print_charges(&mut rt.stdin(), &mut rt.stdout(), Rate(rate)),
     }
 }
 
 // The one argument, or Schedule 2's rate without one.
-fn rate_asked() -> Decimal {
-    let count = os::arg_count();
-    if count < 2 {
+fn rate_asked<E: Env>(env: &E) -> Decimal {
+    if !streams::has_arg(env, 1) {
         return Decimal::Number(tariff::OVERRUN_RATE.0);
     }
-    if 2 < count {
+    if streams::has_arg(env, 2) {
         return Decimal::Refused(Refusal::plain(3));
     }
-    let mut word = io::large_buffer();
-    let length = os::arg(1, &mut word);
+    let mut word = [0u8; LARGE_BUFFER];
+    let length = streams::arg(env, 1, &mut word);
     decimals::decimal_of(&word[..length], MOST_RATE.0)
 }
 
-fn print_charges(rate: Rate) {
-    let mut file = io::large_buffer();
-    let mut text = io::large_buffer();
-    let got = io::read_full(0, &mut file);
+fn print_charges<R: Read, W: Write>(input: &mut R, out: &mut W, rate: Rate) -> Result<()> {
+    let mut file = [0u8; LARGE_BUFFER];
+    let mut text = [0u8; LARGE_BUFFER];
+    let got = streams::read_full(input, &mut file)?;
     let listing = chargelisting::list_charges(&file[..got], rate, &mut text);
     match listing {
-        Listing::Text(size) => print(&text, size),
-        Listing::Refused(refusal) => print_refusal(refusal),
+        Listing::Text(size) => print(out, &text, size),
+        Listing::Refused(refusal) => print_refusal(out, refusal),
     }
 }
 
-fn print_refusal(refusal: Refusal) {
-    let mut line = io::buffer();
+fn print_refusal<W: Write>(out: &mut W, refusal: Refusal) -> Result<()> {
+    let mut line = [0u8; BUFFER];
     let refused = lines::refusal_line(refusal, &mut line);
     match refused {
-        Listing::Text(size) => print(&line, size),
-        Listing::Refused(short) => {}
+        Listing::Text(size) => print(out, &line, size),
+        Listing::Refused(_) => Ok(()),
     }
 }
 
-fn print(text: &[u8], size: usize) {
+fn print<W: Write>(out: &mut W, text: &[u8], size: usize) -> Result<()> {
     if size <= text.len() {
-        io::write_all(1, &text[..size]);
+        out.write_all(&text[..size])?;
     }
+    Ok(())
 }

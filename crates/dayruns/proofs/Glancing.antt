@@ -19,6 +19,7 @@ use Rattle.dayformat.specs.Format.{widths, form}
 use Rattle.dayformat.specs.Layout.{row_start}
 use Rattle.dayrows.specs.declared.Source.{Source}
 use Rattle.dayrows.specs.declared.Source.TheVariants.{File}
+use Rattle.dayrows.specs.declared.Test.{Test}
 use Rattle.dayrows.specs.declared.Test.TheVariants.{Bounds, Key, Mdq}
 use Rattle.dayrows.specs.Test.{bounded, capped, rises, named, passes, fault}
 use Rattle.dayrows.specs.Whole.{broken, with_row}
@@ -68,13 +69,14 @@ unfolding orderly
 sound-named counts f tag row e known under =
     let bounds = both _ _ e in
     let rest = both _ _ bounds.1 in
-    none-fault File counts f tag row
-    (λ test.
-    elim test [
-      | Bounds ↦ kept_under counts f tag row bounds.0 under
-      | Key ↦ keyed counts f tag row rest.0 known
-      | Mdq ↦ rest.1
-    ])
+    none-fault File counts f tag row (by bounds.0 rest.0 rest.1)
+  where
+    by : cond (ltb row (form tag).most) (bounded f tag (row_start counts tag row)) false ≡ true
+        → rises counts f tag row ≡ true → passes Mdq File counts f tag row ≡ true
+        → (test : Test) → passes test File counts f tag row ≡ true
+    by within risen fed Bounds = kept_under counts f tag row within under
+    by within risen fed Key = keyed counts f tag row risen known
+    by within risen fed Mdq = fed
 
 -- ---- a glance
 module _ (source : Source) (counts : Counts) (file : List ℕ) (tag : Tag) (at row : ℕ) (lent : List ℕ) where

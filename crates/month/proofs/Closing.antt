@@ -5,16 +5,13 @@ use Prim.Native.Nat.{ℕ, ◌≤◌}
 use lib.ListN.{length}
 use Rattle.units.specs.declared.refusal.Refusal.{Refusal}
 use Rattle.units.specs.declared.refusal.Check.{Check}
-use Rattle.units.specs.declared.refusal.Check.TheVariants as Check
 use Rattle.units.specs.Refusals.{accepted_or}
 use Rattle.lines.specs.declared.Listing.{Listing}
-use Rattle.lines.specs.declared.Listing.TheVariants as Listing
 use Rattle.lines.specs.Answer.{listing_answer, listing_check, ListingAnswered}
 use Rattle.lines.proofs.Answers.{refused-before}
 use Rattle.month.specs.declared.figures.Figures.{Figures}
 use Rattle.month.specs.declared.account.Account.{Account}
 use Rattle.month.specs.declared.account.Total.{Total}
-use Rattle.month.specs.declared.account.Total.TheVariants as Total
 use Rattle.month.specs.declared.account.Totalled.{Totalled}
 use Rattle.month.specs.Days.{most_days}
 use Rattle.month.specs.Account.{no_days, account_check}

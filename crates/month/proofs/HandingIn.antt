@@ -126,14 +126,16 @@ holding_after : (A : Account) (accepted days : List AccountDay) → Holding A ac
     → Holding (handed_in A days) (accepted_after accepted days)
 unfolding handed_in accepted_after
 holding_after A accepted [] H = H
-holding_after A accepted (day ∷ days) H = holding_after _ _ days (holding_next A accepted H day)
+holding_after A accepted (day ∷ days) H =
+    holding_after (take_in A day).account (joining accepted day) days (holding_next A accepted H day)
 
 answers-after : (A : Account) (accepted days : List AccountDay) → Holding A accepted → answers A days ≡ findings_after accepted days
 unfolding answers findings_after
 answers-after A accepted [] H = refl
 answers-after A accepted (day ∷ days) H =
     ap (λ found. found ∷ answers (take_in A day).account days) (finding-same A accepted H day)
-    ∙ ap (λ rest. finding accepted day ∷ rest) (answers-after _ _ days (holding_next A accepted H day))
+    ∙ ap (λ rest. finding accepted day ∷ rest)
+    (answers-after (take_in A day).account (joining accepted day) days (holding_next A accepted H day))
 
 -- for callers: the empty account
 pub none-long : length no_days.days ≡ most_days

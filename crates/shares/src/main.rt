@@ -2,27 +2,30 @@
 #![tactic(auto)]
 
 use lines::Listing;
+use std::io::{Result, Write};
+use streams::{BUFFER, LARGE_BUFFER};
 
-fn main() {
-    let mut file = io::large_buffer();
-    let mut text = io::buffer();
-    let got = io::read_full(0, &mut file);
+fn main(rt: HostRuntime) -> Result<()> {
+    let mut file = [0u8; LARGE_BUFFER];
+    let mut text = [0u8; BUFFER];
+    let got = streams::read_full(&mut rt.stdin(), &mut file)?;
     let listing = sharelisting::list_shares(&file[..got], &mut text);
     match listing {
-        Listing::Text(size) => print(&text, size),
+        Listing::Text(size) => print(&mut rt.stdout(), &text, size),
         Listing::Refused(refusal) => {
-            let mut line = io::buffer();
+            let mut line = [0u8; BUFFER];
             let refused = lines::refusal_line(refusal, &mut line);
             match refused {
-                Listing::Text(size) => print(&line, size),
-                Listing::Refused(short) => {}
+                Listing::Text(size) => print(&mut rt.stdout(), &line, size),
+                Listing::Refused(_) => Ok(()),
             }
         }
     }
 }
 
-fn print(text: &[u8], size: usize) {
+fn print<W: Write>(out: &mut W, text: &[u8], size: usize) -> Result<()> {
     if size <= text.len() {
-        io::write_all(1, &text[..size]);
+        out.write_all(&text[..size])?;
     }
+    Ok(())
 }

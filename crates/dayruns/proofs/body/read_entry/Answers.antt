@@ -1,7 +1,7 @@
 -- The side, the two names, then the reserved entitlement.
 use mathlib.Core.Path.{refl}
 use Rattle.dayformat.specs.declared.form.Tag.TheVariants.{Entry}
-use Rattle.dayruns.proofs.BodyReading.{kinds-none, kind-room}
+use Rattle.dayruns.proofs.BodyReading.{◌followed_by◌, kinds-none, kind-room}
 use Rattle.dayruns.proofs.body.read_entry.Goals as goal
 
 pub read_kind-side-requires : goal.read_kind-side-requires
@@ -10,13 +10,13 @@ read_kind-side-requires c =
 
 pub read_kind-names-requires : goal.read_kind-names-requires
 read_kind-names-requires c =
-    kind-room (kinds-none _ _ _ followed-by c.read_kind-side.ensures) Entry _ _ refl c.requires
+    kind-room (kinds-none _ _ _ followed_by c.read_kind-side.ensures) Entry _ _ refl c.requires
 
 pub read_kind-requires : goal.read_kind-requires
 read_kind-requires c =
-    kind-room (kinds-none _ _ _ followed-by c.read_kind-side.ensures followed-by c.read_kind-names.ensures) Entry _ _ refl
+    kind-room (kinds-none _ _ _ followed_by c.read_kind-side.ensures followed_by c.read_kind-names.ensures) Entry _ _ refl
     c.requires
 
 pub returns : goal.returns
 returns c =
-    kinds-none _ _ _ followed-by c.read_kind-side.ensures followed-by c.read_kind-names.ensures followed-by c.read_kind.ensures
+    kinds-none _ _ _ followed_by c.read_kind-side.ensures followed_by c.read_kind-names.ensures followed_by c.read_kind.ensures

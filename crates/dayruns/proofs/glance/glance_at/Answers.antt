@@ -1,7 +1,5 @@
 -- Where rows stand in a file, an entry is glanced at in its own way, and any other row by its names.
-use mathlib.Core.Bool.{not}
 use mathlib.Core.Path.{◌≡◌, ap, sym, ◌∙◌}
-use borrow.Author.Tests.{not-false}
 use Rattle.dayformat.specs.declared.form.Tag.TheVariants.{Entry}
 use Rattle.dayformat.proofs.Every.{byte_tells}
 use Rattle.dayrows.specs.declared.Source.TheVariants.{File}
@@ -19,11 +17,11 @@ glance_at_entry-requires c =
 
 pub returns-then-form_of-eq-ENTRY_BYTE : goal.returns-then-form_of-eq-ENTRY_BYTE
 returns-then-form_of-eq-ENTRY_BYTE c =
-    let in-file : c.args.source ≡ File = let asked = c.is_file in asked.ensures (not-false asked.result (ap not c.if-not-is_file.false)) in
+    let in-file : c.args.source ≡ File = let asked = c.is_file in asked.ensures c.if-not-is_file.false in
     let is_entry : c.args.tag ≡ Entry = byte_tells _ _ (sym (ap (λ form. form.byte) c.form_of.ensures) ∙ c.if-form_of-eq-ENTRY_BYTE.true) in
     rw (is_entry, in-file) c.glance_at_entry.ensures
 
 pub returns : goal.returns
 returns c =
-    let in-file : c.args.source ≡ File = let asked = c.is_file in asked.ensures (not-false asked.result (ap not c.if-not-is_file.false)) in
+    let in-file : c.args.source ≡ File = let asked = c.is_file in asked.ensures c.if-not-is_file.false in
     rw in-file c.glance_at_row.ensures

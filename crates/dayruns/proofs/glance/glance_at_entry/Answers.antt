@@ -1,8 +1,7 @@
 -- A row that passes every test but that of its names is sound where its point and its shipper are found.
-use mathlib.Core.Bool.{not}
-use mathlib.Core.Path.{refl, ap}
+use mathlib.Core.Path.{refl}
 use native.Mathlib.Omega.{arith}
-use borrow.Author.Tests.{not-false, ltb-true}
+use borrow.Author.Tests.{ltb-true}
 use Rattle.dayformat.specs.declared.form.Tag.TheVariants.{Entry}
 use Rattle.dayrows.proofs.Capping.{uncapped}
 use Rattle.dayruns.proofs.Finding.{entry_named}
@@ -16,7 +15,7 @@ returns-then-not-see_entry_row c = unsure _ _ _ _ _ _ _ c.see_entry_row.ensures
 pub near_entry-found-requires : goal.near_entry-found-requires
 near_entry-found-requires c =
     let here = c.requires.0 in
-    let room = row_room c.see_entry_row.ensures (not-false c.see_entry_row.result (ap not c.if-not-see_entry_row.false)) in
+    let room = row_room c.see_entry_row.ensures c.if-not-see_entry_row.false in
     (omega (arith, here), omega (arith, here, room))
 
 pub returns-then-counts-found : goal.returns-then-counts-found
@@ -28,7 +27,7 @@ returns c =
     let names = c.near_entry-found.ensures in
     glanced _ _ _ _ _ _ _ c.see_entry_row.ensures
     (λ yes. (
-      not-false c.see_entry_row.result (ap not c.if-not-see_entry_row.false),
+      c.if-not-see_entry_row.false,
       refl,
       entry_named _ _ _ c.requires.0 (names.0 c.if-counts-found.false) (names.1 (ltb-true _ _ yes)),
       uncapped _ _ Entry _ refl,

@@ -1,10 +1,11 @@
-use mathlib.Core.Path.{refl}
+use mathlib.Core.Path.{refl, sym, ◌∙◌}
+use mathlib.Core.Bool.{true≢false}
 use Prim.Native.Nat.{◌+◌, ◌-◌, ◌*◌, ◌≤◌}
 use native.Mathlib.Omega.{arith}
 use lib.ListN.{length}
-use Rattle.columns.proofs.Firsts.{kept-passed}
 use Rattle.dayruns.proofs.KindReading.{number-there, reading-none, reading-next, reading-all}
 use Rattle.dayruns.proofs.kind.read_kind.Goals as goal
+use Rattle.dayruns.proofs.kind.read_kind.Goals.{then-column-number, else-column-number, then-number-column, else-number-column}
 
 pub loop-place-init : goal.loop-place-init
 loop-place-init c = reading-none _ _ _ _ _
@@ -33,10 +34,13 @@ pub loop-place-preserved : goal.loop-place-preserved
 loop-place-preserved c =
     reading-next _ _ _ _ _
     c.loop-place.place c.loop-place.invariant c.loop-place-test.true c.requires.0 c.number_at-number.ensures refl
-    (λ kept.
-    let high-kept = kept-passed c.if-column-number.branch kept in
-    let low-kept = kept-passed c.if-number-column.branch high-kept.1 in
-    (low-kept.1, low-kept.0.left, high-kept.0.left))
+    (λ kept. elim c.if-column-number.branch [
+      | then-column-number w ↦ absurd (true≢false (sym kept ∙ w.kept-is))
+      | else-column-number w ↦ elim c.if-number-column.branch [
+        | then-number-column v ↦ absurd (true≢false (sym kept ∙ w.kept-is ∙ v.kept-is))
+        | else-number-column v ↦ (sym v.kept-is ∙ sym w.kept-is ∙ kept, v.if-number-column.false, w.if-column-number.false)
+      ]
+    ])
 
 pub returns : goal.returns
 returns c =

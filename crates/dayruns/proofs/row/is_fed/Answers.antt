@@ -66,7 +66,7 @@ pub returns : goal.returns
 unfolding some_idle
 returns c =
     let long : length c.mdqs_of-mdqs.result ≡ 2 = ap length c.mdqs_of-mdqs.ensures ∙ length_filled 2 (0 for 0) (mdqs c.args.tag) in
-    let is : let args = c.args in some_idle (col args.numbers.now) args.at c.mdqs_of-mdqs.result ≡ starved (col args.numbers.now) args.tag args.at = ap (some_idle _ _) c.mdqs_of-mdqs.ensures ∙ idle_filled _ _ c.args.tag in
+    let is : let args = c.args in some_idle (col args.numbers.now) args.at c.mdqs_of-mdqs.result ≡ starved (col args.numbers.now) args.tag args.at = ap (some_idle (col c.args.numbers.now) c.args.at) c.mdqs_of-mdqs.ensures ∙ idle_filled (col c.args.numbers.now) c.args.at c.args.tag in
     let list = c.mdqs_of-mdqs.result in
     let past = drop_of_length-le list {i = c.loop-next.next} (omega (arith, c.loop-next-test.false, long)) in
-    ap not (ap (some_idle _ _) (sym past) ∙ c.loop-next.invariant.0 ∙ is)
+    ap not (ap (some_idle (col c.args.numbers.now) c.args.at) (sym past) ∙ c.loop-next.invariant.0 ∙ is)

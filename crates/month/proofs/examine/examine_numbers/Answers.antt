@@ -1,4 +1,3 @@
-use Prim.Native.Nat.{◌-◌}
 use Rattle.units.proofs.Testing.{testing_none, testing_next, testing_all}
 use Rattle.month.proofs.examine.examine_numbers.Goals as goal
 

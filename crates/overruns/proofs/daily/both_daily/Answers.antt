@@ -1,5 +1,4 @@
 -- Each side's overrun is that of its own row and figures.
-
 use Rattle.overruns.proofs.daily.both_daily.Goals as goal
 
 pub returns : goal.returns

@@ -1,5 +1,4 @@
 -- The chain of tests as it is defined.
-
 use Rattle.overruns.proofs.day.examine_day.Goals as goal
 
 pub returns : goal.returns

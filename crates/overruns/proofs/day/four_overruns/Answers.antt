@@ -5,14 +5,7 @@ use Rattle.overruns.proofs.day.four_overruns.Goals as goal
 
 pub returns : goal.returns
 returns c =
-    same-overruns
-    _
-    _
-    _
-    _
-    _
-    c.hourly-over_hours.ensures
-    c.twelve_hourly-over_periods.ensures
+    same-overruns _ _ _ _ _ c.hourly-over_hours.ensures c.twelve_hourly-over_periods.ensures
     (ap (λ x. x.receipt.0) c.both_daily-daily.ensures)
     (ap (λ x. x.delivery.0) c.both_daily-daily.ensures)
     (c.greater-3.ensures ∙ rw (c.greater.ensures, c.greater-2.ensures))

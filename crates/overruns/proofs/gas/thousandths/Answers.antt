@@ -1,15 +1,14 @@
 -- The MDQ in megajoules is a thousandfold, so its thousandth is whole.
-use Prim.Native.Nat.{◌/◌, ◌*◌, ◌^◌, ◌<◌}
 use native.Mathlib.Omega.{arith}
 use Rattle.overruns.proofs.Limits.{thousandths_of, thousandths_low}
 use Rattle.overruns.proofs.gas.thousandths.Goals as goal
 
 pub overflow_mul-result : goal.overflow_mul-result
 overflow_mul-result c =
-    let low : c.args.count * (c.in_megajoules-thousandth.result.0 / 1000) < 2 ^ 63 = thousandths_low c.args.count c.args.mdq c.in_megajoules-thousandth.ensures c.requires (omega arith) in
+    let low = thousandths_low c.args.count c.args.mdq c.in_megajoules-thousandth.ensures c.requires (omega arith) in
     record { fits = omega (arith, low) }
 
 pub returns : goal.returns
 returns c =
-    let low : c.args.count * (c.in_megajoules-thousandth.result.0 / 1000) < 2 ^ 63 = thousandths_low c.args.count c.args.mdq c.in_megajoules-thousandth.ensures c.requires (omega arith) in
+    let low = thousandths_low c.args.count c.args.mdq c.in_megajoules-thousandth.ensures c.requires (omega arith) in
     (thousandths_of c.args.count c.args.mdq c.in_megajoules-thousandth.ensures, low)

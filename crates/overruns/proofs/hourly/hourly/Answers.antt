@@ -18,7 +18,8 @@ figure rows side hour = (get_or (get_or rows side []) hour (record { 0 = 0 })).0
 -- a turn adds the hour's excess
 turn : (hours excused : List (List Megajoules)) (most_delivered most_received : ℕ) {hour total over : ℕ}
     → Adding 24 (greater_excess (taken hours excused) (brought hours excused) most_delivered most_received) hour total → hour < 24
-    → over ≡ max (figure hours 0 hour - figure excused 0 hour - most_delivered) (figure hours 1 hour - figure excused 1 hour - most_received)
+    → over ≡ max (figure hours 0 hour - figure excused 0 hour - most_delivered)
+    (figure hours 1 hour - figure excused 1 hour - most_received)
     → Adding 24 (greater_excess (taken hours excused) (brought hours excused) most_delivered most_received) (hour + 1) (total + over)
 turn hours excused most_delivered most_received {hour} A to e =
     adding_next _ _ A to
@@ -43,7 +44,8 @@ overflow_add-total c =
       fits =
           hours_fit (taken hours excused) (brought hours excused) _ _ c.requires
           (turn hours excused _ _ c.loop-hour.invariant c.loop-hour-test.true
-          (c.greater-over.ensures ∙ rw (c.excess-in-loop-hour.ensures, c.excess.ensures, c.excess-received.ensures, c.excess-delivered.ensures)));
+          (c.greater-over.ensures
+          ∙ rw (c.excess-in-loop-hour.ensures, c.excess.ensures, c.excess-received.ensures, c.excess-delivered.ensures)));
     }
 
 pub loop-hour-preserved : goal.loop-hour-preserved

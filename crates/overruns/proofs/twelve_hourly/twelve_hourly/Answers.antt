@@ -12,8 +12,8 @@ use Rattle.overruns.proofs.twelve_hourly.twelve_hourly.Goals as goal
 
 -- a turn has the period's gas, and adds its excess
 turn : (p m : ℕ) (hours : List ℕ) {h last total gas limit over : ℕ} → Added p m (col hours) h last total → h < 25
-    → gas ≡ sum 12 (λ hour. col (take (h + 11 - (h - 2)) (drop (h - 2) hours)) (1 + hour)) → limit ≡ period_limit p m h → over ≡ gas - limit
-    → Added p m (col hours) (h + 1) gas (total + over)
+    → gas ≡ sum 12 (λ hour. col (take (h + 11 - (h - 2)) (drop (h - 2) hours)) (1 + hour))
+    → limit ≡ period_limit p m h → over ≡ gas - limit → Added p m (col hours) (h + 1) gas (total + over)
 turn p m hours {h} A to g l o =
     let later = A.later in
     next-added p m (col hours) h (g ∙ part_period hours (h - 2) (h + 11 - (h - 2)) 1 h (omega arith) (omega arith)) l o A to

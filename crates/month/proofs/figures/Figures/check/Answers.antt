@@ -1,6 +1,4 @@
 use mathlib.Core.Path.{refl}
-use Prim.Native.Nat.{◌-◌}
-use Rattle.units.specs.Refusals.{keep}
 use Rattle.units.proofs.Testing.{testing_none, testing_next, testing_all}
 use Rattle.month.specs.Figures.{figures_check}
 use Rattle.month.proofs.figures.Figures.check.Goals as goal
