@@ -4,6 +4,7 @@ ghost use Rattle.std.specs.Prelude.{◌≤◌};
 use crate::answers::put_metered;
 use crate::case::{wide, word};
 use readings::{HourReading, meter_day, reading_of};
+use std::io::{Result, Write};
 
 // The words of an hour: its kind, then two for the bits of either number.
 const HOUR: u16 = 5;
@@ -13,9 +14,9 @@ const INFINITE: u64 = 0x7ff0_0000_0000_0000;
 
 const SIGN: u64 = 0x8000_0000_0000_0000;
 
-pub fn answer_meter_day(case: &[u8]) {
-    io::write_all(1, b"meter_day");
-    put_metered(meter_day(readings_in(case)));
+pub fn answer_meter_day<W: Write>(out: &mut W, case: &[u8]) -> Result<()> {
+    out.write_all(b"meter_day")?;
+    put_metered(out, meter_day(readings_in(case)))
 }
 
 fn readings_in(case: &[u8]) -> [HourReading; 24] {

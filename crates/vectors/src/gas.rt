@@ -3,13 +3,14 @@ use crate::lines::{put_figures, put_megajoules, put_refusal};
 use crate::words::{MOST_ROWS, list, megajoules_of, past, past_list, signed, wide, word};
 use columns::lesser;
 use pointshares::Hour;
+use std::io::{Result, Write};
 use units::{Gigajoules, Megajoules};
 use usegas::{Imbalance, ImbalanceFuel, UseGas};
 
 // What a lent list holds before the call: no answer has it.
 const LENT: u64 = 4_000_000_000;
 
-pub fn answer_hour(case: &[u32]) {
+pub fn answer_hour<W: Write>(out: &mut W, case: &[u32]) -> Result<()> {
     let mut shares = [LENT; MOST_ROWS];
     let room = lesser(word(case, 2) as usize, MOST_ROWS);
     let entitlements = past(case, 3);
@@ -22,17 +23,17 @@ pub fn answer_hour(case: &[u32]) {
         list(past_list(entitlements)),
         &mut shares[0..room],
     );
-    io::write_all(1, b"share_hour");
+    out.write_all(b"share_hour")?;
     match hour {
-        Hour::Refused(refusal) => put_refusal(refusal),
+        Hour::Refused(refusal) => put_refusal(out, refusal)?,
         Hour::Shared(given) => {
-            put_figures(&[0, 0, given.0]);
+            put_figures(out, &[0, 0, given.0])?;
         }
     }
-    put_megajoules(&shares, room);
+    put_megajoules(out, &shares, room)
 }
 
-pub fn answer_general(case: &[u32]) {
+pub fn answer_general<W: Write>(out: &mut W, case: &[u32]) -> Result<()> {
     let mut shares = [LENT; MOST_ROWS];
     let room = lesser(word(case, 6) as usize, MOST_ROWS);
     let gas = usegas::share_general(
@@ -42,12 +43,12 @@ pub fn answer_general(case: &[u32]) {
         list(past(case, 7)),
         &mut shares[0..room],
     );
-    io::write_all(1, b"share_general");
-    put_gas(gas);
-    put_megajoules(&shares, room);
+    out.write_all(b"share_general")?;
+    put_gas(out, gas)?;
+    put_megajoules(out, &shares, room)
 }
 
-pub fn answer_heater(case: &[u32]) {
+pub fn answer_heater<W: Write>(out: &mut W, case: &[u32]) -> Result<()> {
     let mut shares = [LENT; MOST_ROWS];
     let room = lesser(word(case, 2) as usize, MOST_ROWS);
     let gas = usegas::share_heater(
@@ -55,31 +56,27 @@ pub fn answer_heater(case: &[u32]) {
         list(past(case, 3)),
         &mut shares[0..room],
     );
-    io::write_all(1, b"share_heater");
-    put_gas(gas);
-    put_megajoules(&shares, room);
+    out.write_all(b"share_heater")?;
+    put_gas(out, gas)?;
+    put_megajoules(out, &shares, room)
 }
 
-fn put_gas(gas: UseGas) {
+fn put_gas<W: Write>(out: &mut W, gas: UseGas) -> Result<()> {
     match gas {
-        UseGas::Refused(refusal) => put_refusal(refusal),
-        UseGas::Shared(given) => {
-            put_figures(&[0, 0, given.0]);
-        }
+        UseGas::Refused(refusal) => put_refusal(out, refusal),
+        UseGas::Shared(given) => put_figures(out, &[0, 0, given.0]),
     }
 }
 
-pub fn answer_fuel(case: &[u32]) {
+pub fn answer_fuel<W: Write>(out: &mut W, case: &[u32]) -> Result<()> {
     let fuel = usegas::imbalance_fuel(
         Imbalance(signed(case, 0)),
         Imbalance(signed(case, 2)),
         Gigajoules(word(case, 4)),
     );
-    io::write_all(1, b"imbalance_fuel");
+    out.write_all(b"imbalance_fuel")?;
     match fuel {
-        ImbalanceFuel::Refused(refusal) => put_refusal(refusal),
-        ImbalanceFuel::Supplied(supplied) => {
-            put_figures(&[0, 0, supplied.0]);
-        }
+        ImbalanceFuel::Refused(refusal) => put_refusal(out, refusal),
+        ImbalanceFuel::Supplied(supplied) => put_figures(out, &[0, 0, supplied.0]),
     }
 }

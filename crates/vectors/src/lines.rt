@@ -1,38 +1,42 @@
 // A line of the answers: 01's number and place, the figures where it is accepted, and each lent list whole.
 use crate::words::MOST_ROWS;
 use columns::lesser;
+use std::io::{Result, Write};
 use units::Refusal;
 
-fn put(figure: u64) {
-    io::write_all(1, b" ");
-    io::print_decimal(1, figure);
+fn put<W: Write>(out: &mut W, figure: u64) -> Result<()> {
+    out.write_all(b" ")?;
+    streams::print_decimal(out, figure)
 }
 
 // Figures one after another.
-pub fn put_figures(figures: &[u64]) {
+pub fn put_figures<W: Write>(out: &mut W, figures: &[u64]) -> Result<()> {
     for place in 0..figures.len() {
-        put(figures[place]);
+        put(out, figures[place])?;
     }
+    Ok(())
 }
 
-pub fn put_refusal(refusal: Refusal) {
-    put_figures(&[refusal.number as u64, refusal.place as u64]);
+pub fn put_refusal<W: Write>(out: &mut W, refusal: Refusal) -> Result<()> {
+    put_figures(out, &[refusal.number as u64, refusal.place as u64])
 }
 
 // A lent list as it is after the call.
-pub fn put_gigajoules(lent: &[u32; MOST_ROWS], room: usize) {
-    io::write_all(1, b" :");
+pub fn put_gigajoules<W: Write>(out: &mut W, lent: &[u32; MOST_ROWS], room: usize) -> Result<()> {
+    out.write_all(b" :")?;
     for row in 0..lesser(room, MOST_ROWS) {
-        put(figure_of(lent[row]));
+        put(out, figure_of(lent[row]))?;
     }
+    Ok(())
 }
 
 // The same of megajoules.
-pub fn put_megajoules(lent: &[u64; MOST_ROWS], room: usize) {
-    io::write_all(1, b" :");
+pub fn put_megajoules<W: Write>(out: &mut W, lent: &[u64; MOST_ROWS], room: usize) -> Result<()> {
+    out.write_all(b" :")?;
     for row in 0..lesser(room, MOST_ROWS) {
-        put(lent[row]);
+        put(out, lent[row])?;
     }
+    Ok(())
 }
 
 // A cast of its own, so that the loop above asks for the index alone.

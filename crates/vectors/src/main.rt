@@ -9,49 +9,53 @@ mod shares;
 mod words;
 
 use columns::lesser;
+use std::io::{Read, Result, Write};
 use words::{MOST_WORDS, past, word, words_of};
 
 // A proved loop has to end, and nothing says that the input does: it counts down from a number that no run uses up.
-fn main() {
+fn main(rt: HostRuntime) -> Result<()> {
+    let mut input = rt.stdin();
+    let mut out = rt.stdout();
     let mut turns = u64::MAX;
-    while 0 < turns && answer_next() {
+    while 0 < turns && answer_next(&mut input, &mut out)? {
         turns -= 1;
     }
+    Ok(())
 }
 
 // Answers the next case, where there is one: how many words it has, then the words, each of four bytes.
-fn answer_next() -> bool {
+fn answer_next<R: Read, W: Write>(input: &mut R, out: &mut W) -> Result<bool> {
     let mut head = [0u8; 4];
-    if io::read_full(0, &mut head) < 4 {
-        return false;
+    if streams::read_full(input, &mut head)? < 4 {
+        return Ok(false);
     }
     let count = lesser(bigendian::number_at(&head, 0, 4) as usize, MOST_WORDS);
     let mut body = [0u8; 4 * MOST_WORDS];
-    io::read_full(0, &mut body[0..4 * count]);
+    streams::read_full(input, &mut body[0..4 * count])?;
     let words = words_of(&body);
-    answer(&words[0..count]);
-    true
+    answer(out, &words[0..count])?;
+    Ok(true)
 }
 
 // A case's first word is its routine.
-fn answer(case: &[u32]) {
+fn answer<W: Write>(out: &mut W, case: &[u32]) -> Result<()> {
     let given = past(case, 1);
     match word(case, 0) {
-        1 => shares::answer_round(given),
-        2 => shares::answer_day(given),
-        3 => gas::answer_hour(given),
-        4 => gas::answer_general(given),
-        5 => gas::answer_heater(given),
-        6 => gas::answer_fuel(given),
-        7 => meters::answer_hourly(given),
-        8 => meters::answer_twelve_hourly(given),
-        9 => meters::answer_daily(given),
-        10 => meters::answer_overruns(given),
-        11 => charges::answer_overrun(given),
-        12 => charges::answer_variation(given),
-        13 => charges::answer_request(given),
-        14 => charges::answer_escalation(given),
+        1 => shares::answer_round(out, given)?,
+        2 => shares::answer_day(out, given)?,
+        3 => gas::answer_hour(out, given)?,
+        4 => gas::answer_general(out, given)?,
+        5 => gas::answer_heater(out, given)?,
+        6 => gas::answer_fuel(out, given)?,
+        7 => meters::answer_hourly(out, given)?,
+        8 => meters::answer_twelve_hourly(out, given)?,
+        9 => meters::answer_daily(out, given)?,
+        10 => meters::answer_overruns(out, given)?,
+        11 => charges::answer_overrun(out, given)?,
+        12 => charges::answer_variation(out, given)?,
+        13 => charges::answer_request(out, given)?,
+        14 => charges::answer_escalation(out, given)?,
         _ => {}
     }
-    io::write_all(1, b"\n");
+    out.write_all(b"\n")
 }

@@ -4,6 +4,7 @@ use crate::words::{MOST_ROWS, list, megajoules_of, past, past_list, wide, word};
 use columns::lesser;
 use metered::Side;
 use overruns::{DailyOverruns, DayOverruns, Overrun, Overruns};
+use std::io::{Result, Write};
 use units::{Gigajoules, Megajoules};
 
 // The hours of one side: 24 pairs of words.
@@ -40,26 +41,24 @@ fn side_of(case: &[u32]) -> Side {
     }
 }
 
-fn put_overrun(overrun: Overrun) {
+fn put_overrun<W: Write>(out: &mut W, overrun: Overrun) -> Result<()> {
     match overrun {
-        Overrun::Refused(refusal) => put_refusal(refusal),
-        Overrun::Over(over) => {
-            put_figures(&[0, 0, over.0]);
-        }
+        Overrun::Refused(refusal) => put_refusal(out, refusal),
+        Overrun::Over(over) => put_figures(out, &[0, 0, over.0]),
     }
 }
 
-pub fn answer_hourly(case: &[u32]) {
+pub fn answer_hourly<W: Write>(out: &mut W, case: &[u32]) -> Result<()> {
     let overrun = overruns::hourly_overrun(
         Gigajoules(word(case, 0)),
         sides_of(past(case, 1)),
         sides_of(past(case, 97)),
     );
-    io::write_all(1, b"hourly_overrun");
-    put_overrun(overrun);
+    out.write_all(b"hourly_overrun")?;
+    put_overrun(out, overrun)
 }
 
-pub fn answer_twelve_hourly(case: &[u32]) {
+pub fn answer_twelve_hourly<W: Write>(out: &mut W, case: &[u32]) -> Result<()> {
     let lists = past(case, 2);
     let pairs = list(lists);
     let figures = megajoules_of(pairs);
@@ -73,26 +72,24 @@ pub fn answer_twelve_hourly(case: &[u32]) {
         &figures[0..hours],
         &excused_figures[0..excused_hours],
     );
-    io::write_all(1, b"twelve_hourly_overrun");
-    put_overrun(overrun);
+    out.write_all(b"twelve_hourly_overrun")?;
+    put_overrun(out, overrun)
 }
 
-pub fn answer_daily(case: &[u32]) {
+pub fn answer_daily<W: Write>(out: &mut W, case: &[u32]) -> Result<()> {
     let daily = overruns::daily_overruns(
         sides_of(past(case, 8)),
         side_of(case),
         side_of(past(case, 4)),
     );
-    io::write_all(1, b"daily_overruns");
+    out.write_all(b"daily_overruns")?;
     match daily {
-        DailyOverruns::Refused(refusal) => put_refusal(refusal),
-        DailyOverruns::Over(over) => {
-            put_figures(&[0, 0, over.receipt.0, over.delivery.0]);
-        }
+        DailyOverruns::Refused(refusal) => put_refusal(out, refusal),
+        DailyOverruns::Over(over) => put_figures(out, &[0, 0, over.receipt.0, over.delivery.0]),
     }
 }
 
-pub fn answer_overruns(case: &[u32]) {
+pub fn answer_overruns<W: Write>(out: &mut W, case: &[u32]) -> Result<()> {
     let day = overruns::overruns_of_day(
         Gigajoules(word(case, 0)),
         Gigajoules(word(case, 1)),
@@ -103,21 +100,24 @@ pub fn answer_overruns(case: &[u32]) {
         yesterday_of(past(case, 128)),
         sides_of(past(case, 150)),
     );
-    io::write_all(1, b"overruns_of_day");
+    out.write_all(b"overruns_of_day")?;
     match day {
-        DayOverruns::Refused(refusal) => put_refusal(refusal),
-        DayOverruns::Over(over) => put_overruns(over),
+        DayOverruns::Refused(refusal) => put_refusal(out, refusal),
+        DayOverruns::Over(over) => put_overruns(out, over),
     }
 }
 
-fn put_overruns(over: Overruns) {
-    put_figures(&[
-        0,
-        0,
-        over.hourly.0,
-        over.twelve_hourly.0,
-        over.daily_receipt.0,
-        over.daily_delivery.0,
-        over.greatest.0,
-    ]);
+fn put_overruns<W: Write>(out: &mut W, over: Overruns) -> Result<()> {
+    put_figures(
+        out,
+        &[
+            0,
+            0,
+            over.hourly.0,
+            over.twelve_hourly.0,
+            over.daily_receipt.0,
+            over.daily_delivery.0,
+            over.greatest.0,
+        ],
+    )
 }

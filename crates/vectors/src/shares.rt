@@ -4,12 +4,13 @@ use crate::words::{MOST_ROWS, list, past, past_list, word};
 use columns::lesser;
 use dayshares::{Day, Shares};
 use rounds::Round;
+use std::io::{Result, Write};
 use units::Gigajoules;
 
 // What a lent list holds before the call: no answer has it.
 const LENT: u32 = 4_000_000_000;
 
-pub fn answer_round(case: &[u32]) {
+pub fn answer_round<W: Write>(out: &mut W, case: &[u32]) -> Result<()> {
     let mut shares = [LENT; MOST_ROWS];
     let room = lesser(word(case, 1) as usize, MOST_ROWS);
     let weights = past(case, 2);
@@ -20,17 +21,17 @@ pub fn answer_round(case: &[u32]) {
         list(needs),
         &mut shares[0..room],
     );
-    io::write_all(1, b"share_round");
+    out.write_all(b"share_round")?;
     match round {
-        Round::Refused(refusal) => put_refusal(refusal),
+        Round::Refused(refusal) => put_refusal(out, refusal)?,
         Round::Shared(given) => {
-            put_figures(&[0, 0, given.level, given.total.0 as u64]);
+            put_figures(out, &[0, 0, given.level, given.total.0 as u64])?;
         }
     }
-    put_gigajoules(&shares, room);
+    put_gigajoules(out, &shares, room)
 }
 
-pub fn answer_day(case: &[u32]) {
+pub fn answer_day<W: Write>(out: &mut W, case: &[u32]) -> Result<()> {
     let mut firm = [LENT; MOST_ROWS];
     let mut auction = [LENT; MOST_ROWS];
     let mut lower_tier = [LENT; MOST_ROWS];
@@ -43,14 +44,14 @@ pub fn answer_day(case: &[u32]) {
         &mut auction[0..auction_room],
         &mut lower_tier[0..lower_tier_room],
     );
-    io::write_all(1, b"share_day");
+    out.write_all(b"share_day")?;
     match day {
-        Day::Refused(refusal) => put_refusal(refusal),
-        Day::Shared(shares) => put_day(shares),
+        Day::Refused(refusal) => put_refusal(out, refusal)?,
+        Day::Shared(shares) => put_day(out, shares)?,
     }
-    put_gigajoules(&firm, firm_room);
-    put_gigajoules(&auction, auction_room);
-    put_gigajoules(&lower_tier, lower_tier_room);
+    put_gigajoules(out, &firm, firm_room)?;
+    put_gigajoules(out, &auction, auction_room)?;
+    put_gigajoules(out, &lower_tier, lower_tier_room)
 }
 
 fn share_day(case: &[u32], firm: &mut [u32], auction: &mut [u32], lower_tier: &mut [u32]) -> Day {
@@ -73,19 +74,22 @@ fn share_day(case: &[u32], firm: &mut [u32], auction: &mut [u32], lower_tier: &m
     )
 }
 
-fn put_day(shares: Shares) {
+fn put_day<W: Write>(out: &mut W, shares: Shares) -> Result<()> {
     let levels = shares.levels;
-    put_figures(&[
-        0,
-        0,
-        levels.one,
-        levels.two,
-        levels.three,
-        levels.auction,
-        levels.lower_tier,
-        shares.firm.0 as u64,
-        shares.auction.0 as u64,
-        shares.lower_tier.0 as u64,
-        shares.left.0 as u64,
-    ]);
+    put_figures(
+        out,
+        &[
+            0,
+            0,
+            levels.one,
+            levels.two,
+            levels.three,
+            levels.auction,
+            levels.lower_tier,
+            shares.firm.0 as u64,
+            shares.auction.0 as u64,
+            shares.lower_tier.0 as u64,
+            shares.left.0 as u64,
+        ],
+    )
 }

@@ -102,13 +102,13 @@ slice_bounds-share_day-end-5 c =
     c.column_of-lower_tier_schedule.ensures
 
 pub shape_of-firm : goal.shape_of-firm
-shape_of-firm c = c.share_day.auto.1.1.1.1.1.1.1.0
+shape_of-firm c = c.share_day.auto.firm
 
 pub shape_of-auction : goal.shape_of-auction
-shape_of-auction c = c.share_day.auto.1.1.1.1.1.1.1.1.0
+shape_of-auction c = c.share_day.auto.auction
 
 pub shape_of-lower_tier : goal.shape_of-lower_tier
-shape_of-lower_tier c = c.share_day.auto.1.1.1.1.1.1.1.1.1.0
+shape_of-lower_tier c = c.share_day.auto.lower_tier
 
 pub returns : goal.returns
 returns c =

@@ -15,7 +15,7 @@ pub loop-place-preserved : goal.loop-place-preserved
 loop-place-preserved c = (
   rw add-one
       (stage_next _ c.loop-place.place c.loop-place-test.true c.loop-place.invariant.0
-      (rw c.tag_at.ensures at c.walk_table-walk.ensures) c.walk_table-walk.auto.1.1.1.0),
+      (rw c.tag_at.ensures at c.walk_table-walk.ensures) c.walk_table-walk.auto.numbers),
   omega (arith, c.loop-place-test.true),
 )
 

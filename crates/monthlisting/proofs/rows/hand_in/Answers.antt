@@ -1,4 +1,3 @@
-use Prim.Native.Nat.{◌-◌}
 use Rattle.monthlisting.proofs.Handing.{handing_none, handing_next, handing_stops, handing_all}
 use Rattle.monthlisting.proofs.rows.hand_in.Goals as goal
 

@@ -12,14 +12,14 @@ slice_bounds-numbers-end c =
     let given = c.reading-in-Read-1.given in
     rw c.numbers_of-count.ensures.0
     (part-inside c.args.file.now _ _ given.0.0
-    (rw given.1 at c.read_day-reading.ensures) c.read_day-reading.auto.1.0)
+    (rw given.1 at c.read_day-reading.ensures) c.read_day-reading.auto.numbers)
 
 pub slice_bounds-list_day-end : goal.slice_bounds-list_day-end
 slice_bounds-list_day-end c =
     let given = c.reading-in-Read-1.given in
     rw c.numbers_of-count.ensures.0
     (part_long c.args.file.now _ _ given.0.0
-    (rw given.1 at c.read_day-reading.ensures) c.read_day-reading.auto.1.0)
+    (rw given.1 at c.read_day-reading.ensures) c.read_day-reading.auto.numbers)
 
 pub list_day-requires : goal.list_day-requires
 list_day-requires c =
