@@ -1,31 +1,34 @@
 // A line of the answers: 01's number and place, the figures where it is accepted, and a part's bytes.
+use std::io::{Result, Write};
 use units::Refusal;
 
-pub fn put(figure: u64) {
-    io::write_all(1, b" ");
-    io::print_decimal(1, figure);
+pub fn put<W: Write>(out: &mut W, figure: u64) -> Result<()> {
+    out.write_all(b" ")?;
+    streams::print_decimal(out, figure)
 }
 
 // Figures one after another.
-pub fn put_figures(figures: &[u64]) {
+pub fn put_figures<W: Write>(out: &mut W, figures: &[u64]) -> Result<()> {
     for place in 0..figures.len() {
-        put(figures[place]);
+        put(out, figures[place])?;
     }
+    Ok(())
 }
 
-pub fn put_refusal(refusal: Refusal) {
-    put_figures(&[refusal.number as u64, refusal.place as u64]);
+pub fn put_refusal<W: Write>(out: &mut W, refusal: Refusal) -> Result<()> {
+    put_figures(out, &[refusal.number as u64, refusal.place as u64])
 }
 
 // Bytes in hexadecimal.
-pub fn put_bytes(bytes: &[u8]) {
-    io::write_all(1, b" :");
+pub fn put_bytes<W: Write>(out: &mut W, bytes: &[u8]) -> Result<()> {
+    out.write_all(b" :")?;
     for place in 0..bytes.len() {
-        put_byte(bytes[place]);
+        put_byte(out, bytes[place])?;
     }
+    Ok(())
 }
 
 // A cast of its own, so that the loop above asks for the index alone.
-pub fn put_byte(byte: u8) {
-    io::print_hex(1, byte as u64, 2);
+pub fn put_byte<W: Write>(out: &mut W, byte: u8) -> Result<()> {
+    streams::print_hex(out, byte)
 }

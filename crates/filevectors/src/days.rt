@@ -6,38 +6,42 @@ use columns::lesser;
 use dayfile::Reading;
 use dayformat::{Counts, Day, Head};
 use daywriter::Written;
+use std::io::{Result, Write};
 use units::Gigajoules;
 
-pub fn answer_reading(case: &[u8]) {
+pub fn answer_reading<W: Write>(out: &mut W, case: &[u8]) -> Result<()> {
     let mut lent = [LENT_NUMBER; MOST_NUMBERS];
     let room = lesser(word(case, 0) as usize, MOST_NUMBERS);
     let reading = dayfile::read_day(bytes(past(case, 1)), &mut lent[0..room]);
-    io::write_all(1, b"read_day");
+    out.write_all(b"read_day")?;
     match reading {
-        Reading::Refused(refusal) => put_refusal(refusal),
-        Reading::Read(day) => put_day(day),
+        Reading::Refused(refusal) => put_refusal(out, refusal)?,
+        Reading::Read(day) => put_day(out, day)?,
     }
-    put_numbers(&lent, room);
+    put_numbers(out, &lent, room)
 }
 
-fn put_day(day: Day) {
+fn put_day<W: Write>(out: &mut W, day: Day) -> Result<()> {
     let head = day.head;
     let counts = day.counts;
-    put_figures(&[
-        0,
-        0,
-        head.day as u64,
-        head.free_flow.0 as u64,
-        head.compressor.0 as u64,
-        counts.shippers as u64,
-        counts.points as u64,
-        counts.entries as u64,
-        counts.meters as u64,
-        counts.excused as u64,
-    ]);
+    put_figures(
+        out,
+        &[
+            0,
+            0,
+            head.day as u64,
+            head.free_flow.0 as u64,
+            head.compressor.0 as u64,
+            counts.shippers as u64,
+            counts.points as u64,
+            counts.entries as u64,
+            counts.meters as u64,
+            counts.excused as u64,
+        ],
+    )
 }
 
-pub fn answer_writing(case: &[u8]) {
+pub fn answer_writing<W: Write>(out: &mut W, case: &[u8]) -> Result<()> {
     let mut lent = [LENT_BYTE; MOST_BYTES];
     let room = lesser(word(case, 8) as usize, MOST_BYTES);
     let halves = past(case, 9);
@@ -45,14 +49,14 @@ pub fn answer_writing(case: &[u8]) {
     let numbers = numbers_of(bytes(past_bytes(halves)), lower);
     let count = lesser(lower.len() / 4, MOST_NUMBERS);
     let written = daywriter::write_day(day_of(case), &numbers[0..count], &mut lent[0..room]);
-    io::write_all(1, b"write_day");
+    out.write_all(b"write_day")?;
     match written {
-        Written::Refused(refusal) => put_refusal(refusal),
+        Written::Refused(refusal) => put_refusal(out, refusal)?,
         Written::Bytes(size) => {
-            put_figures(&[0, 0, size as u64]);
+            put_figures(out, &[0, 0, size as u64])?;
         }
     }
-    put_block(&lent, room);
+    put_block(out, &lent, room)
 }
 
 // A day's head and counts.

@@ -2,6 +2,7 @@
 use crate::answers::{put_bytes, put_figures, put_refusal};
 use crate::case::{bytes, past, past_bytes, word};
 use columns::lesser;
+use std::io::{Result, Write};
 use units::Check;
 
 fn side_of(case: &[u8]) -> u8 {
@@ -12,7 +13,7 @@ fn point_of(case: &[u8]) -> u16 {
     lesser(word(case, 1) as usize, 65_535) as u16
 }
 
-pub fn answer_check(case: &[u8]) {
+pub fn answer_check<W: Write>(out: &mut W, case: &[u8]) -> Result<()> {
     let receipt = past(case, 2);
     let delivery = past_bytes(receipt);
     let check = pointentries::check_entries(
@@ -21,17 +22,15 @@ pub fn answer_check(case: &[u8]) {
         side_of(case),
         point_of(case),
     );
-    io::write_all(1, b"check_entries");
+    out.write_all(b"check_entries")?;
     match check {
-        Check::Refused(refusal) => put_refusal(refusal),
-        Check::Accepted => {
-            put_figures(&[0, 0]);
-        }
+        Check::Refused(refusal) => put_refusal(out, refusal),
+        Check::Accepted => put_figures(out, &[0, 0]),
     }
 }
 
 // How many bytes the part has, then the bytes.
-pub fn answer_part(case: &[u8]) {
+pub fn answer_part<W: Write>(out: &mut W, case: &[u8]) -> Result<()> {
     let receipt = past(case, 2);
     let delivery = past_bytes(receipt);
     let part = pointentries::entries_of_point(
@@ -40,7 +39,7 @@ pub fn answer_part(case: &[u8]) {
         side_of(case),
         point_of(case),
     );
-    io::write_all(1, b"entries_of_point");
-    put_figures(&[0, 0, part.len() as u64]);
-    put_bytes(part);
+    out.write_all(b"entries_of_point")?;
+    put_figures(out, &[0, 0, part.len() as u64])?;
+    put_bytes(out, part)
 }

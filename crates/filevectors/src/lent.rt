@@ -3,6 +3,7 @@ ghost use Rattle.std.specs.Prelude.{◌≤◌};
 
 use crate::answers::{put, put_byte};
 use columns::lesser;
+use std::io::{Result, Write};
 
 // What a lent number is before the call: no answer has it.
 pub const LENT_NUMBER: usize = 4_000_000_000;
@@ -16,33 +17,33 @@ pub const MOST_NUMBERS: usize = dayformat::MOST_NUMBERS + 1;
 // No block of bytes: one more than a full day's file has, and no listing is as long.
 pub const MOST_BYTES: usize = dayformat::MOST_BYTES + 1;
 
-pub fn put_numbers(lent: &[usize; MOST_NUMBERS], room: usize) {
+pub fn put_numbers<W: Write>(out: &mut W, lent: &[usize; MOST_NUMBERS], room: usize) -> Result<()> {
     let written = written_numbers(lent, room);
-    io::write_all(1, b" :");
+    out.write_all(b" :")?;
     for place in 0..written {
-        put_number(lent[place]);
+        put_number(out, lent[place])?;
     }
-    put_kept(room - written);
+    put_kept(out, room - written)
 }
 
 // Bytes in hexadecimal.
-pub fn put_block(lent: &[u8; MOST_BYTES], room: usize) {
+pub fn put_block<W: Write>(out: &mut W, lent: &[u8; MOST_BYTES], room: usize) -> Result<()> {
     let written = written_bytes(lent, room);
-    io::write_all(1, b" :");
+    out.write_all(b" :")?;
     for place in 0..written {
-        put_byte(lent[place]);
+        put_byte(out, lent[place])?;
     }
-    put_kept(room - written);
+    put_kept(out, room - written)
 }
 
 // A cast of its own, so that the loop above asks for the index alone.
-fn put_number(number: usize) {
-    put(number as u64);
+fn put_number<W: Write>(out: &mut W, number: usize) -> Result<()> {
+    put(out, number as u64)
 }
 
-fn put_kept(count: usize) {
-    io::write_all(1, b" kept");
-    put(count as u64);
+fn put_kept<W: Write>(out: &mut W, count: usize) -> Result<()> {
+    out.write_all(b" kept")?;
+    put(out, count as u64)
 }
 
 fn written_numbers(lent: &[usize; MOST_NUMBERS], room: usize) -> usize

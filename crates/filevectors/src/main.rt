@@ -10,49 +10,53 @@ mod texts;
 
 use case::{past, word};
 use columns::lesser;
+use std::io::{Read, Result, Write};
 
 // No case has more words: what a large buffer holds.
 const MOST_WORDS: usize = 16_384;
 
 // A proved loop has to end, and nothing says that the input does: it counts down from a number that no run uses up.
-fn main() {
+fn main(rt: HostRuntime) -> Result<()> {
+    let mut input = rt.stdin();
+    let mut out = rt.stdout();
     let mut turns = u64::MAX;
-    while 0 < turns && answer_next() {
+    while 0 < turns && answer_next(&mut input, &mut out)? {
         turns -= 1;
     }
+    Ok(())
 }
 
 // Answers the next case, where there is one: how many words it has, then the words, each of four bytes.
-fn answer_next() -> bool {
+fn answer_next<R: Read, W: Write>(input: &mut R, out: &mut W) -> Result<bool> {
     let mut head = [0u8; 4];
-    if io::read_full(0, &mut head) < 4 {
-        return false;
+    if streams::read_full(input, &mut head)? < 4 {
+        return Ok(false);
     }
     let size = 4 * lesser(word(&head, 0) as usize, MOST_WORDS);
-    let mut body = io::large_buffer();
-    answer_read(&mut body[0..size]);
-    true
+    let mut body = [0u8; 4 * MOST_WORDS];
+    answer_read(input, out, &mut body[0..size])?;
+    Ok(true)
 }
 
 // Reads a case's words, and answers it.
-fn answer_read(body: &mut [u8]) {
-    io::read_full(0, body);
-    answer(body);
+fn answer_read<R: Read, W: Write>(input: &mut R, out: &mut W, body: &mut [u8]) -> Result<()> {
+    streams::read_full(input, body)?;
+    answer(out, body)
 }
 
 // A case's first word is its routine.
-fn answer(case: &[u8]) {
+fn answer<W: Write>(out: &mut W, case: &[u8]) -> Result<()> {
     let given = past(case, 1);
     match word(case, 0) {
-        1 => days::answer_reading(given),
-        2 => days::answer_writing(given),
-        3 => entries::answer_check(given),
-        4 => entries::answer_part(given),
-        5 => texts::answer_refusal(given),
-        6 => texts::answer_shares(given),
-        7 => texts::answer_charges(given),
-        8 => texts::answer_points(given),
+        1 => days::answer_reading(out, given)?,
+        2 => days::answer_writing(out, given)?,
+        3 => entries::answer_check(out, given)?,
+        4 => entries::answer_part(out, given)?,
+        5 => texts::answer_refusal(out, given)?,
+        6 => texts::answer_shares(out, given)?,
+        7 => texts::answer_charges(out, given)?,
+        8 => texts::answer_points(out, given)?,
         _ => {}
     }
-    io::write_all(1, b"\n");
+    out.write_all(b"\n")
 }

@@ -4,6 +4,7 @@ ghost use Rattle.std.specs.Prelude.{◌≤◌};
 use columns::lesser;
 use lines::Listing;
 use month::{Account, AccountDay, Closed, Figures, MOST_DAYS, Taken, Total, Totalled};
+use std::io::{Result, Write};
 use units::{Check, Refusal};
 
 // What a lent byte is before the call.
@@ -12,96 +13,109 @@ pub const LENT_BYTE: u8 = 255;
 // No block has more room: one byte more than the longest statement.
 pub const MOST_ROOM: usize = month::MOST_STATEMENT + 1;
 
-fn put(figure: u64) {
-    io::write_all(1, b" ");
-    io::print_decimal(1, figure);
+fn put<W: Write>(out: &mut W, figure: u64) -> Result<()> {
+    out.write_all(b" ")?;
+    streams::print_decimal(out, figure)
 }
 
 // Figures one after another.
-pub fn put_figures(figures: &[u64]) {
+pub fn put_figures<W: Write>(out: &mut W, figures: &[u64]) -> Result<()> {
     for place in 0..figures.len() {
-        put(figures[place]);
+        put(out, figures[place])?;
     }
+    Ok(())
 }
 
-fn put_refusal(refusal: Refusal) {
-    put_figures(&[refusal.number as u64, refusal.place as u64]);
+fn put_refusal<W: Write>(out: &mut W, refusal: Refusal) -> Result<()> {
+    put_figures(out, &[refusal.number as u64, refusal.place as u64])
 }
 
 // An account after a day was handed in.
-pub fn put_taken(taken: Taken) {
+pub fn put_taken<W: Write>(out: &mut W, taken: Taken) -> Result<()> {
     let found = taken.found;
     match found {
-        Check::Refused(refusal) => put_refusal(refusal),
-        Check::Accepted => put_figures(&[0, 0]),
+        Check::Refused(refusal) => put_refusal(out, refusal)?,
+        Check::Accepted => put_figures(out, &[0, 0])?,
     }
-    put_account(taken.account);
+    put_account(out, taken.account)
 }
 
-pub fn put_sums(sums: Figures) {
+pub fn put_sums<W: Write>(out: &mut W, sums: Figures) -> Result<()> {
     let numbers = numbers_of(AccountDay {
         number: 0,
         figures: sums,
     });
-    put_figures(&numbers[1..]);
+    put_figures(out, &numbers[1..])
 }
 
 // An account and its total.
-pub fn put_totalled(totalled: Totalled) {
+pub fn put_totalled<W: Write>(out: &mut W, totalled: Totalled) -> Result<()> {
     let total = totalled.total;
     match total {
         Total::Refused(refusal) => {
-            put_refusal(refusal);
-            put_figures(&[0; 7]);
+            put_refusal(out, refusal)?;
+            put_figures(out, &[0; 7])?;
         }
         Total::Sums(sums) => {
-            put_figures(&[0, 0]);
-            put_sums(sums);
+            put_figures(out, &[0, 0])?;
+            put_sums(out, sums)?;
         }
     }
-    put_account(totalled.account);
+    put_account(out, totalled.account)
 }
 
 // A text's size, and the block that was lent for it.
-pub fn put_listing(listing: Listing, lent: &[u8; MOST_ROOM], room: usize) {
+pub fn put_listing<W: Write>(
+    out: &mut W,
+    listing: Listing,
+    lent: &[u8; MOST_ROOM],
+    room: usize,
+) -> Result<()> {
     match listing {
         Listing::Refused(refusal) => {
-            put_refusal(refusal);
-            put_figures(&[0]);
+            put_refusal(out, refusal)?;
+            put_figures(out, &[0])?;
         }
         Listing::Text(size) => {
-            put_figures(&[0, 0, size as u64]);
+            put_figures(out, &[0, 0, size as u64])?;
         }
     }
-    put_block(lent, room);
+    put_block(out, lent, room)
 }
 
 // The same of an account that was closed.
-pub fn put_closed(closed: Closed, lent: &[u8; MOST_ROOM], room: usize) {
+pub fn put_closed<W: Write>(
+    out: &mut W,
+    closed: Closed,
+    lent: &[u8; MOST_ROOM],
+    room: usize,
+) -> Result<()> {
     let listing = closed.listing;
-    put_listing(listing, lent, room);
-    put_account(closed.account);
+    put_listing(out, listing, lent, room)?;
+    put_account(out, closed.account)
 }
 
 // A lent block as it is after the call, in hexadecimal.
-fn put_block(lent: &[u8; MOST_ROOM], room: usize) {
-    io::write_all(1, b" :");
+fn put_block<W: Write>(out: &mut W, lent: &[u8; MOST_ROOM], room: usize) -> Result<()> {
+    out.write_all(b" :")?;
     for place in 0..lesser(room, MOST_ROOM) {
-        put_byte(lent[place]);
+        put_byte(out, lent[place])?;
     }
+    Ok(())
 }
 
-fn put_byte(byte: u8) {
-    io::print_hex(1, byte as u64, 2);
+fn put_byte<W: Write>(out: &mut W, byte: u8) -> Result<()> {
+    streams::print_hex(out, byte)
 }
 
 // Its count, then its days up to the last that is not all zeros.
-pub fn put_account(account: Account) {
-    io::write_all(1, b" :");
-    put(account.count as u64);
+pub fn put_account<W: Write>(out: &mut W, account: Account) -> Result<()> {
+    out.write_all(b" :")?;
+    put(out, account.count as u64)?;
     for row in 0..told_of(account) {
-        put_day(account.days[row]);
+        put_day(out, account.days[row])?;
     }
+    Ok(())
 }
 
 fn told_of(account: Account) -> usize
@@ -127,8 +141,8 @@ fn is_told(day: AccountDay) -> bool {
     false
 }
 
-fn put_day(day: AccountDay) {
-    put_figures(&numbers_of(day));
+fn put_day<W: Write>(out: &mut W, day: AccountDay) -> Result<()> {
+    put_figures(out, &numbers_of(day))
 }
 
 fn numbers_of(day: AccountDay) -> [u64; 8] {

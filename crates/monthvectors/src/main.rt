@@ -10,46 +10,50 @@ mod value;
 
 use case::{MOST_WORDS, word};
 use columns::lesser;
+use std::io::{Read, Result, Write};
 
 // A proved loop has to end, and nothing says that the input does: it counts down from a number that no run uses up.
-fn main() {
+fn main(rt: HostRuntime) -> Result<()> {
+    let mut input = rt.stdin();
+    let mut out = rt.stdout();
     let mut turns = u64::MAX;
-    while 0 < turns && answer_next() {
+    while 0 < turns && answer_next(&mut input, &mut out)? {
         turns -= 1;
     }
+    Ok(())
 }
 
 // Answers the next case, where there is one: how many words it has, then the words, each of four bytes.
-fn answer_next() -> bool {
+fn answer_next<R: Read, W: Write>(input: &mut R, out: &mut W) -> Result<bool> {
     let mut head = [0u8; 4];
-    if io::read_full(0, &mut head) < 4 {
-        return false;
+    if streams::read_full(input, &mut head)? < 4 {
+        return Ok(false);
     }
     let size = 4 * lesser(word(&head, 0) as usize, MOST_WORDS);
     let mut body = [0u8; 4 * MOST_WORDS];
-    answer_read(&mut body[0..size]);
-    true
+    answer_read(input, out, &mut body[0..size])?;
+    Ok(true)
 }
 
 // Reads a case's words, and answers it.
-fn answer_read(body: &mut [u8]) {
-    io::read_full(0, body);
-    answer(body);
-    io::write_all(1, b"\n");
+fn answer_read<R: Read, W: Write>(input: &mut R, out: &mut W, body: &mut [u8]) -> Result<()> {
+    streams::read_full(input, body)?;
+    answer(out, body)?;
+    out.write_all(b"\n")
 }
 
 // A case's first word is its routine.
-fn answer(case: &[u8]) {
+fn answer<W: Write>(out: &mut W, case: &[u8]) -> Result<()> {
     let routine = word(case, 0);
     match routine {
-        1 => value::answer_take_in(case),
-        2 => value::answer_total_up(case),
-        3 => value::answer_close(case),
-        4 => record::answer_take_in(case),
-        5 => record::answer_total_up(case),
-        6 => record::answer_close(case),
-        7 => listing::answer_list(case),
-        8 => value::answer_hand_in(case),
-        _ => {}
+        1 => value::answer_take_in(out, case),
+        2 => value::answer_total_up(out, case),
+        3 => value::answer_close(out, case),
+        4 => record::answer_take_in(out, case),
+        5 => record::answer_total_up(out, case),
+        6 => record::answer_close(out, case),
+        7 => listing::answer_list(out, case),
+        8 => value::answer_hand_in(out, case),
+        _ => Ok(()),
     }
 }

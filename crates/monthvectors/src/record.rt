@@ -3,24 +3,25 @@ use crate::account::{account_in, day_at, past_account};
 use crate::answers::{LENT_BYTE, MOST_ROOM, put_closed, put_taken, put_totalled};
 use crate::case::room_at;
 use month::{Account, AccountDay, Closed, Taken, Totalled};
+use std::io::{Result, Write};
 
-pub fn answer_take_in(case: &[u8]) {
+pub fn answer_take_in<W: Write>(out: &mut W, case: &[u8]) -> Result<()> {
     let day = day_at(case, past_account(case));
-    io::write_all(1, b"record_take_in");
-    put_taken(take_in(account_in(case), day));
+    out.write_all(b"record_take_in")?;
+    put_taken(out, take_in(account_in(case), day))
 }
 
-pub fn answer_total_up(case: &[u8]) {
-    io::write_all(1, b"record_total_up");
-    put_totalled(total_up(account_in(case)));
+pub fn answer_total_up<W: Write>(out: &mut W, case: &[u8]) -> Result<()> {
+    out.write_all(b"record_total_up")?;
+    put_totalled(out, total_up(account_in(case)))
 }
 
-pub fn answer_close(case: &[u8]) {
+pub fn answer_close<W: Write>(out: &mut W, case: &[u8]) -> Result<()> {
     let room = room_at(case, past_account(case));
     let mut lent = [LENT_BYTE; MOST_ROOM];
     let closed = close(account_in(case), &mut lent[0..room]);
-    io::write_all(1, b"record_close");
-    put_closed(closed, &lent, room);
+    out.write_all(b"record_close")?;
+    put_closed(out, closed, &lent, room)
 }
 
 // Each lends an account of its own, and hands it back as it is afterwards.

@@ -8,65 +8,66 @@ use crate::answers::{
 use crate::case::{room_at, word};
 use columns::lesser;
 use month::{Account, Total};
+use std::io::{Result, Write};
 use units::Check;
 
-pub fn answer_take_in(case: &[u8]) {
+pub fn answer_take_in<W: Write>(out: &mut W, case: &[u8]) -> Result<()> {
     let day = day_at(case, past_account(case));
-    io::write_all(1, b"take_in");
-    put_taken(account_in(case).take_in(day));
+    out.write_all(b"take_in")?;
+    put_taken(out, account_in(case).take_in(day))
 }
 
-pub fn answer_total_up(case: &[u8]) {
-    io::write_all(1, b"total_up");
-    put_totalled(account_in(case).total_up());
+pub fn answer_total_up<W: Write>(out: &mut W, case: &[u8]) -> Result<()> {
+    out.write_all(b"total_up")?;
+    put_totalled(out, account_in(case).total_up())
 }
 
-pub fn answer_close(case: &[u8]) {
+pub fn answer_close<W: Write>(out: &mut W, case: &[u8]) -> Result<()> {
     let room = room_at(case, past_account(case));
     let mut lent = [LENT_BYTE; MOST_ROOM];
     let closed = account_in(case).close(&mut lent[0..room]);
-    io::write_all(1, b"close");
-    put_closed(closed, &lent, room);
+    out.write_all(b"close")?;
+    put_closed(out, closed, &lent, room)
 }
 
 // Days handed in one after another, going on past refused ones.
-pub fn answer_hand_in(case: &[u8]) {
-    io::write_all(1, b"hand_in");
-    put_figures(&[0, 0]);
-    let account = hand_in(case);
-    io::write_all(1, b" :");
+pub fn answer_hand_in<W: Write>(out: &mut W, case: &[u8]) -> Result<()> {
+    out.write_all(b"hand_in")?;
+    put_figures(out, &[0, 0])?;
+    let account = hand_in(out, case)?;
+    out.write_all(b" :")?;
     let total = account.total_up().total;
     if let Total::Sums(sums) = total {
-        put_sums(sums);
+        put_sums(out, sums)?;
     }
-    put_account(account);
+    put_account(out, account)
 }
 
 // No month has more days handed in.
 const MOST_HANDED: usize = 64;
 
-fn hand_in(case: &[u8]) -> Account {
+fn hand_in<W: Write>(out: &mut W, case: &[u8]) -> Result<Account> {
     let days = lesser(word(case, 1) as usize, MOST_HANDED);
     let mut account = Account::empty();
     for row in 0..days {
-        account = hand_in_next(account, case, 2 + DAY * row as u16);
+        account = hand_in_next(out, account, case, 2 + DAY * row as u16)?;
     }
-    account
+    Ok(account)
 }
 
 // What the account is after the day at a place; its refusal's number is printed, 0 for none.
-fn hand_in_next(account: Account, case: &[u8], place: u16) -> Account
+fn hand_in_next<W: Write>(out: &mut W, account: Account, case: &[u8], place: u16) -> Result<Account>
     requires { place ≤ 4096 }
 {
     let taken = account.take_in(day_at(case, place));
     let found = taken.found;
-    put_number(found);
-    taken.account
+    put_number(out, found)?;
+    Ok(taken.account)
 }
 
-fn put_number(found: Check) {
+fn put_number<W: Write>(out: &mut W, found: Check) -> Result<()> {
     match found {
-        Check::Refused(refusal) => put_figures(&[refusal.number as u64]),
-        Check::Accepted => put_figures(&[0]),
+        Check::Refused(refusal) => put_figures(out, &[refusal.number as u64]),
+        Check::Accepted => put_figures(out, &[0]),
     }
 }

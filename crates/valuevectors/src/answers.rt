@@ -1,5 +1,6 @@
 // A line of the answers: 01's number and place, the figures where it is accepted, and each lent list or block whole.
 use columns::lesser;
+use std::io::{Result, Write};
 use units::{Check, Refusal};
 
 // What a lent list holds before the call: no answer has it.
@@ -16,59 +17,60 @@ pub const MOST_ROWS: usize = 65;
 // No block: more than the lines of 64 entries.
 pub const MOST_BYTES: usize = 1_100;
 
-fn put(figure: u64) {
-    io::write_all(1, b" ");
-    io::print_decimal(1, figure);
+fn put<W: Write>(out: &mut W, figure: u64) -> Result<()> {
+    out.write_all(b" ")?;
+    streams::print_decimal(out, figure)
 }
 
 // Figures one after another.
-pub fn put_figures(figures: &[u64]) {
+pub fn put_figures<W: Write>(out: &mut W, figures: &[u64]) -> Result<()> {
     for place in 0..figures.len() {
-        put(figures[place]);
+        put(out, figures[place])?;
     }
+    Ok(())
 }
 
-pub fn put_refusal(refusal: Refusal) {
-    put_figures(&[refusal.number as u64, refusal.place as u64]);
+pub fn put_refusal<W: Write>(out: &mut W, refusal: Refusal) -> Result<()> {
+    put_figures(out, &[refusal.number as u64, refusal.place as u64])
 }
 
-pub fn put_check(check: Check) {
+pub fn put_check<W: Write>(out: &mut W, check: Check) -> Result<()> {
     match check {
-        Check::Refused(refusal) => put_refusal(refusal),
-        Check::Accepted => {
-            put_figures(&[0, 0]);
-        }
+        Check::Refused(refusal) => put_refusal(out, refusal),
+        Check::Accepted => put_figures(out, &[0, 0]),
     }
 }
 
 // A lent list as it is after the call.
-pub fn put_hours(lent: &[u64; MOST_ROWS], room: usize) {
+pub fn put_hours<W: Write>(out: &mut W, lent: &[u64; MOST_ROWS], room: usize) -> Result<()> {
     let hours = &lent[..];
-    io::write_all(1, b" :");
-    put_figures(&hours[0..lesser(room, MOST_ROWS)]);
+    out.write_all(b" :")?;
+    put_figures(out, &hours[0..lesser(room, MOST_ROWS)])
 }
 
 // The same of gigajoules.
-pub fn put_rows(lent: &[u32; MOST_ROWS], room: usize) {
-    io::write_all(1, b" :");
+pub fn put_rows<W: Write>(out: &mut W, lent: &[u32; MOST_ROWS], room: usize) -> Result<()> {
+    out.write_all(b" :")?;
     for row in 0..lesser(room, MOST_ROWS) {
-        put_row(lent[row]);
+        put_row(out, lent[row])?;
     }
+    Ok(())
 }
 
 // A cast of its own, so that the loop above asks for the index alone.
-fn put_row(gigajoules: u32) {
-    put(gigajoules as u64);
+fn put_row<W: Write>(out: &mut W, gigajoules: u32) -> Result<()> {
+    put(out, gigajoules as u64)
 }
 
 // The same of a block of bytes, in hexadecimal.
-pub fn put_block(lent: &[u8; MOST_BYTES], room: usize) {
-    io::write_all(1, b" :");
+pub fn put_block<W: Write>(out: &mut W, lent: &[u8; MOST_BYTES], room: usize) -> Result<()> {
+    out.write_all(b" :")?;
     for place in 0..lesser(room, MOST_BYTES) {
-        put_byte(lent[place]);
+        put_byte(out, lent[place])?;
     }
+    Ok(())
 }
 
-fn put_byte(byte: u8) {
-    io::print_hex(1, byte as u64, 2);
+fn put_byte<W: Write>(out: &mut W, byte: u8) -> Result<()> {
+    streams::print_hex(out, byte)
 }

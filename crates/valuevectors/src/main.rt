@@ -14,78 +14,89 @@ use case::{past, word};
 use columns::lesser;
 use day::{day_of, length_of, numbers_of, past_day};
 use dayformat::Day;
+use std::io::{Read, Result, Write};
 
 // No case has more words: what a large buffer holds.
 const MOST_WORDS: usize = 16_384;
 
 // A proved loop has to end, and nothing says that the input does: it counts down from a number that no run uses up.
-fn main() {
+fn main(rt: HostRuntime) -> Result<()> {
+    let mut input = rt.stdin();
+    let mut out = rt.stdout();
     let mut turns = u64::MAX;
-    while 0 < turns && answer_next() {
+    while 0 < turns && answer_next(&mut input, &mut out)? {
         turns -= 1;
     }
+    Ok(())
 }
 
 // Answers the next case, where there is one: how many words it has, then the words, each of four bytes.
-fn answer_next() -> bool {
+fn answer_next<R: Read, W: Write>(input: &mut R, out: &mut W) -> Result<bool> {
     let mut head = [0u8; 4];
-    if io::read_full(0, &mut head) < 4 {
-        return false;
+    if streams::read_full(input, &mut head)? < 4 {
+        return Ok(false);
     }
     let size = 4 * lesser(word(&head, 0) as usize, MOST_WORDS);
-    let mut body = io::large_buffer();
-    answer_read(&mut body[0..size]);
-    true
+    let mut body = [0u8; 4 * MOST_WORDS];
+    answer_read(input, out, &mut body[0..size])?;
+    Ok(true)
 }
 
 // Reads a case's words, and answers it.
-fn answer_read(body: &mut [u8]) {
-    io::read_full(0, body);
-    answer(body);
+fn answer_read<R: Read, W: Write>(input: &mut R, out: &mut W, body: &mut [u8]) -> Result<()> {
+    streams::read_full(input, body)?;
+    answer(out, body)
 }
 
 // A case's first word is its routine; of most routines a day is the next argument.
-fn answer(case: &[u8]) {
+fn answer<W: Write>(out: &mut W, case: &[u8]) -> Result<()> {
     let routine = word(case, 0);
     let given = past(case, 1);
     match routine {
-        14 => texts::answer_decimal(given),
-        _ => answer_day(routine, given),
+        14 => texts::answer_decimal(out, given)?,
+        _ => answer_day(out, routine, given)?,
     }
-    io::write_all(1, b"\n");
+    out.write_all(b"\n")
 }
 
-fn answer_day(routine: u32, case: &[u8]) {
+fn answer_day<W: Write>(out: &mut W, routine: u32, case: &[u8]) -> Result<()> {
     let numbers = numbers_of(case);
     answer_numbers(
+        out,
         routine,
         day_of(case),
         &numbers[0..length_of(case)],
         past_day(case),
-    );
+    )
 }
 
-fn answer_numbers(routine: u32, day: Day, numbers: &[usize], given: &[u8]) {
+fn answer_numbers<W: Write>(
+    out: &mut W,
+    routine: u32,
+    day: Day,
+    numbers: &[usize],
+    given: &[u8],
+) -> Result<()> {
     let counts = day.counts;
     match routine {
-        1 => rows::answer_number(counts, numbers, given),
-        2 => rows::answer_row(counts, numbers, given),
-        3 => rows::answer_shipper(counts, numbers, given),
-        4 => rows::answer_point(counts, numbers, given),
-        5 => shippers::answer_check(counts, numbers, given),
-        6 => shippers::answer_column(counts, numbers, given),
-        7 => shippers::answer_shares(day, numbers, given),
-        8 => meters::answer_check(counts, numbers, given),
-        9 => meters::answer_figures(counts, numbers, given),
-        10 => meters::answer_yesterday(counts, numbers, given),
-        11 => meters::answer_hours(counts, numbers, given),
-        12 => meters::answer_delivered(counts, numbers, given),
-        13 => texts::answer_hour(counts, numbers, given),
-        15 => excused::answer_check(counts, numbers, given),
-        16 => excused::answer_shipper(counts, numbers, given),
-        17 => excused::answer_row(counts, numbers, given),
-        18 => excused::answer_yesterday(counts, numbers, given),
-        19 => excused::answer_hours(counts, numbers, given),
-        _ => {}
+        1 => rows::answer_number(out, counts, numbers, given),
+        2 => rows::answer_row(out, counts, numbers, given),
+        3 => rows::answer_shipper(out, counts, numbers, given),
+        4 => rows::answer_point(out, counts, numbers, given),
+        5 => shippers::answer_check(out, counts, numbers, given),
+        6 => shippers::answer_column(out, counts, numbers, given),
+        7 => shippers::answer_shares(out, day, numbers, given),
+        8 => meters::answer_check(out, counts, numbers, given),
+        9 => meters::answer_figures(out, counts, numbers, given),
+        10 => meters::answer_yesterday(out, counts, numbers, given),
+        11 => meters::answer_hours(out, counts, numbers, given),
+        12 => meters::answer_delivered(out, counts, numbers, given),
+        13 => texts::answer_hour(out, counts, numbers, given),
+        15 => excused::answer_check(out, counts, numbers, given),
+        16 => excused::answer_shipper(out, counts, numbers, given),
+        17 => excused::answer_row(out, counts, numbers, given),
+        18 => excused::answer_yesterday(out, counts, numbers, given),
+        19 => excused::answer_hours(out, counts, numbers, given),
+        _ => Ok(()),
     }
 }

@@ -3,6 +3,7 @@ use crate::answers::{put_check, put_figures, put_refusal};
 use crate::case::word;
 use dayformat::{Counts, Tag};
 use dayvalues::{PointRow, ShipperRow};
+use std::io::{Result, Write};
 
 // The tables' tags: 2 to 5, and 9.
 fn tag_of(tag: u32) -> Tag {
@@ -15,48 +16,67 @@ fn tag_of(tag: u32) -> Tag {
     }
 }
 
-pub fn answer_number(counts: Counts, numbers: &[usize], given: &[u8]) {
+pub fn answer_number<W: Write>(
+    out: &mut W,
+    counts: Counts,
+    numbers: &[usize],
+    given: &[u8],
+) -> Result<()> {
     let tag = tag_of(word(given, 0));
     let number = dayvalues::number_at(counts, numbers, tag, word(given, 1), word(given, 2));
-    io::write_all(1, b"number_at");
-    put_figures(&[0, 0, number as u64]);
+    out.write_all(b"number_at")?;
+    put_figures(out, &[0, 0, number as u64])
 }
 
-pub fn answer_row(counts: Counts, numbers: &[usize], given: &[u8]) {
+pub fn answer_row<W: Write>(
+    out: &mut W,
+    counts: Counts,
+    numbers: &[usize],
+    given: &[u8],
+) -> Result<()> {
     let tag = tag_of(word(given, 0));
     let check = dayvalues::check_row(counts, numbers, tag, word(given, 1));
-    io::write_all(1, b"check_row");
-    put_check(check);
+    out.write_all(b"check_row")?;
+    put_check(out, check)
 }
 
-pub fn answer_shipper(counts: Counts, numbers: &[usize], given: &[u8]) {
+pub fn answer_shipper<W: Write>(
+    out: &mut W,
+    counts: Counts,
+    numbers: &[usize],
+    given: &[u8],
+) -> Result<()> {
     let row = dayvalues::shipper_at(counts, numbers, word(given, 0));
-    io::write_all(1, b"shipper_at");
-    put_shipper(row);
+    out.write_all(b"shipper_at")?;
+    put_shipper(out, row)
 }
 
-pub fn put_shipper(row: ShipperRow) {
+pub fn put_shipper<W: Write>(out: &mut W, row: ShipperRow) -> Result<()> {
     match row {
-        ShipperRow::Refused(refusal) => put_refusal(refusal),
-        ShipperRow::Shipper(shipper) => {
-            put_figures(&[0, 0, shipper as u64]);
-        }
+        ShipperRow::Refused(refusal) => put_refusal(out, refusal),
+        ShipperRow::Shipper(shipper) => put_figures(out, &[0, 0, shipper as u64]),
     }
 }
 
-pub fn answer_point(counts: Counts, numbers: &[usize], given: &[u8]) {
+pub fn answer_point<W: Write>(
+    out: &mut W,
+    counts: Counts,
+    numbers: &[usize],
+    given: &[u8],
+) -> Result<()> {
     let row = dayvalues::point_at(counts, numbers, word(given, 0));
-    io::write_all(1, b"point_at");
+    out.write_all(b"point_at")?;
     match row {
-        PointRow::Refused(refusal) => put_refusal(refusal),
-        PointRow::Point(point) => {
-            put_figures(&[
+        PointRow::Refused(refusal) => put_refusal(out, refusal),
+        PointRow::Point(point) => put_figures(
+            out,
+            &[
                 0,
                 0,
                 point.side as u64,
                 point.point as u64,
                 point.capacity.0,
-            ]);
-        }
+            ],
+        ),
     }
 }

@@ -5,6 +5,7 @@ use columns::lesser;
 use dayformat::Counts;
 use dayshares::Shares;
 use dayvalues::{ColumnRows, ShipperColumn};
+use std::io::{Result, Write};
 
 // The columns by where a row has them, 1 to 5.
 fn column_of(place: u32) -> ShipperColumn {
@@ -17,30 +18,45 @@ fn column_of(place: u32) -> ShipperColumn {
     }
 }
 
-pub fn answer_check(counts: Counts, numbers: &[usize], given: &[u8]) {
+pub fn answer_check<W: Write>(
+    out: &mut W,
+    counts: Counts,
+    numbers: &[usize],
+    given: &[u8],
+) -> Result<()> {
     let column = column_of(word(given, 0));
     let room = wide(word(given, 1), word(given, 2));
     let check = dayvalues::check_column(counts, numbers, column, room);
-    io::write_all(1, b"check_column");
-    put_check(check);
+    out.write_all(b"check_column")?;
+    put_check(out, check)
 }
 
-pub fn answer_column(counts: Counts, numbers: &[usize], given: &[u8]) {
+pub fn answer_column<W: Write>(
+    out: &mut W,
+    counts: Counts,
+    numbers: &[usize],
+    given: &[u8],
+) -> Result<()> {
     let mut lent = [LENT_ROW; MOST_ROWS];
     let column = column_of(word(given, 0));
     let room = lesser(word(given, 1) as usize, MOST_ROWS);
     let listed = dayvalues::shipper_column(counts, numbers, column, &mut lent[0..room]);
-    io::write_all(1, b"shipper_column");
+    out.write_all(b"shipper_column")?;
     match listed {
-        ColumnRows::Refused(refusal) => put_refusal(refusal),
+        ColumnRows::Refused(refusal) => put_refusal(out, refusal)?,
         ColumnRows::Rows(rows) => {
-            put_figures(&[0, 0, rows as u64]);
+            put_figures(out, &[0, 0, rows as u64])?;
         }
     }
-    put_rows(&lent, room);
+    put_rows(out, &lent, room)
 }
 
-pub fn answer_shares(day: dayformat::Day, numbers: &[usize], given: &[u8]) {
+pub fn answer_shares<W: Write>(
+    out: &mut W,
+    day: dayformat::Day,
+    numbers: &[usize],
+    given: &[u8],
+) -> Result<()> {
     let mut firm = [LENT_ROW; MOST_ROWS];
     let mut auction = [LENT_ROW; MOST_ROWS];
     let mut lower_tier = [LENT_ROW; MOST_ROWS];
@@ -54,29 +70,32 @@ pub fn answer_shares(day: dayformat::Day, numbers: &[usize], given: &[u8]) {
         &mut auction[0..auction_room],
         &mut lower_tier[0..lower_tier_room],
     );
-    io::write_all(1, b"share_numbers");
+    out.write_all(b"share_numbers")?;
     match shared {
-        dayshares::Day::Refused(refusal) => put_refusal(refusal),
-        dayshares::Day::Shared(shares) => put_shares(shares),
+        dayshares::Day::Refused(refusal) => put_refusal(out, refusal)?,
+        dayshares::Day::Shared(shares) => put_shares(out, shares)?,
     }
-    put_rows(&firm, firm_room);
-    put_rows(&auction, auction_room);
-    put_rows(&lower_tier, lower_tier_room);
+    put_rows(out, &firm, firm_room)?;
+    put_rows(out, &auction, auction_room)?;
+    put_rows(out, &lower_tier, lower_tier_room)
 }
 
-fn put_shares(shares: Shares) {
+fn put_shares<W: Write>(out: &mut W, shares: Shares) -> Result<()> {
     let levels = shares.levels;
-    put_figures(&[
-        0,
-        0,
-        levels.one,
-        levels.two,
-        levels.three,
-        levels.auction,
-        levels.lower_tier,
-        shares.firm.0 as u64,
-        shares.auction.0 as u64,
-        shares.lower_tier.0 as u64,
-        shares.left.0 as u64,
-    ]);
+    put_figures(
+        out,
+        &[
+            0,
+            0,
+            levels.one,
+            levels.two,
+            levels.three,
+            levels.auction,
+            levels.lower_tier,
+            shares.firm.0 as u64,
+            shares.auction.0 as u64,
+            shares.lower_tier.0 as u64,
+            shares.left.0 as u64,
+        ],
+    )
 }

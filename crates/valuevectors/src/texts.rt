@@ -4,27 +4,31 @@ use crate::case::{bytes, past, wide, word};
 use columns::lesser;
 use dayformat::Counts;
 use decimals::Decimal;
+use std::io::{Result, Write};
 use units::Megajoules;
 
-pub fn answer_hour(counts: Counts, numbers: &[usize], given: &[u8]) {
+pub fn answer_hour<W: Write>(
+    out: &mut W,
+    counts: Counts,
+    numbers: &[usize],
+    given: &[u8],
+) -> Result<()> {
     let mut lent = [LENT_BYTE; MOST_BYTES];
     let capacity = Megajoules(wide(word(given, 0), word(given, 1)) as u64);
     let at = wide(word(given, 2), word(given, 3));
     let room = lesser(word(given, 4) as usize, MOST_BYTES);
     let part = bytes(past(given, 5));
     let size = pointhours::put_hour(counts, numbers, part, capacity, &mut lent[0..room], at);
-    io::write_all(1, b"put_hour");
-    put_figures(&[0, 0, size as u64]);
-    put_block(&lent, room);
+    out.write_all(b"put_hour")?;
+    put_figures(out, &[0, 0, size as u64])?;
+    put_block(out, &lent, room)
 }
 
-pub fn answer_decimal(given: &[u8]) {
+pub fn answer_decimal<W: Write>(out: &mut W, given: &[u8]) -> Result<()> {
     let decimal = decimals::decimal_of(bytes(past(given, 1)), word(given, 0));
-    io::write_all(1, b"decimal_of");
+    out.write_all(b"decimal_of")?;
     match decimal {
-        Decimal::Refused(refusal) => put_refusal(refusal),
-        Decimal::Number(number) => {
-            put_figures(&[0, 0, number as u64]);
-        }
+        Decimal::Refused(refusal) => put_refusal(out, refusal),
+        Decimal::Number(number) => put_figures(out, &[0, 0, number as u64]),
     }
 }

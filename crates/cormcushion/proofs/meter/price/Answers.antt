@@ -5,9 +5,9 @@ use Rattle.cormcushion.proofs.meter.price.Goals as goal
 pub returns-in-Refused : goal.returns-in-Refused
 returns-in-Refused c =
     let is = sym c.overrun_charge-charge.ensures ∙ c.in-Refused.is in
-    (rw is c.refused.ensures, rw is refl)
+    record { value = rw is c.refused.ensures; lent_after = rw is refl }
 
 pub returns-in-Charged : goal.returns-in-Charged
 returns-in-Charged c =
     let is = sym c.overrun_charge-charge.ensures ∙ c.in-Charged.is in
-    (rw is c.accepted.ensures, rw is c.figures_of.ensures)
+    record { value = rw is c.accepted.ensures; lent_after = rw is c.figures_of.ensures }

@@ -10,4 +10,4 @@ returns-in-Refused c =
 pub returns-in-Accepted : goal.returns-in-Accepted
 returns-in-Accepted c =
     let is = sym c.keep-found.ensures ∙ c.in-Accepted.is in
-    charged is c.price_day.ensures.0 c.price_day.ensures.1
+    charged is c.price_day.ensures.value c.price_day.ensures.lent_after

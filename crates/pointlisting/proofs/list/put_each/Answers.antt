@@ -15,7 +15,7 @@ loop-row-init c = (omega arith, omega arith, texts_none _)
 pub overflow_add-at : goal.overflow_add-at
 overflow_add-at c =
     let few : c.args.day.counts.points ≤ 32 = c.requires.0.sound.few Point in
-    omega (arith, c.loop-row.invariant.1, c.loop-row-test.true, few, c.requires.1, c.good.1.1.1.1.0)
+    omega (arith, c.loop-row.invariant.1, c.loop-row-test.true, few, c.requires.1)
 
 pub put_point-size-requires : goal.put_point-size-requires
 put_point-size-requires c =

@@ -9,24 +9,21 @@ use Rattle.sharelisting.proofs.list.list_shares.Goals as goal
 
 pub slice_bounds-numbers-end : goal.slice_bounds-numbers-end
 slice_bounds-numbers-end c =
-    let given = c.reading-in-Read-1.given in
     rw c.numbers_of-count.ensures.0
-    (part-inside c.args.file.now _ _ given.0.0
-    (rw given.1 at c.read_day-reading.ensures) c.read_day-reading.auto.numbers)
+    (part-inside c.args.file.now _ _ c.in-Read.day
+    (rw c.in-Read.is at c.read_day-reading.ensures) c.read_day-reading.auto.lent)
 
 pub slice_bounds-list_day-end : goal.slice_bounds-list_day-end
 slice_bounds-list_day-end c =
-    let given = c.reading-in-Read-1.given in
     rw c.numbers_of-count.ensures.0
-    (part_long c.args.file.now _ _ given.0.0
-    (rw given.1 at c.read_day-reading.ensures) c.read_day-reading.auto.numbers)
+    (part_long c.args.file.now _ _ c.in-Read.day
+    (rw c.in-Read.is at c.read_day-reading.ensures) c.read_day-reading.auto.lent)
 
 pub list_day-requires : goal.list_day-requires
 list_day-requires c =
-    let given = c.reading-in-Read-1.given in
     rw c.numbers_of-count.ensures.0
-    (part_sound c.args.file.now _ _ given.0.0
-    (rw given.1 at c.read_day-reading.ensures))
+    (part_sound c.args.file.now _ _ c.in-Read.day
+    (rw c.in-Read.is at c.read_day-reading.ensures))
 
 pub returns-in-Refused : goal.returns-in-Refused
 returns-in-Refused c =
@@ -35,7 +32,6 @@ returns-in-Refused c =
 
 pub returns-in-Read : goal.returns-in-Read
 returns-in-Read c =
-    let given = c.reading-in-Read-1.given in
-    lists-day c.args.file.now _ _ given.0.0
-    (rw given.1 at c.read_day-reading.ensures) (λ day numbers. shares_text day (col numbers))
+    lists-day c.args.file.now _ _ c.in-Read.day
+    (rw c.in-Read.is at c.read_day-reading.ensures) (λ day numbers. shares_text day (col numbers))
     (rw c.numbers_of-count.ensures.0 at c.list_day.ensures)

@@ -1,9 +1,0 @@
--- The loop counts up to the eight numbers of a day.
-use Prim.Native.Nat.{◌-◌, ◌≤◌}
-use Rattle.monthvectors.proofs.answers.is_told.Given as goal
-
-abbrev pub invariant-loop-place : goal.invariant-loop-place
-invariant-loop-place l = l.place ≤ 8
-
-abbrev pub decreases-loop-place : goal.decreases-loop-place
-decreases-loop-place l = 8 - l.place
