@@ -9,7 +9,6 @@ use rounds::share_round;
 use units::Gigajoules;
 
 // One sharing round: its level, with the shares at the front of the lent list.
-#[unsafe(no_mangle)]
 pub extern "C" fn cormcushion_share_round(
     capacity: u32,
     weights: &[u32],
@@ -22,7 +21,6 @@ pub extern "C" fn cormcushion_share_round(
 }
 
 // A day's shares: LEFT, with each class's shares at the front of its lent list, and the levels of the five rounds in `levels`.
-#[unsafe(no_mangle)]
 pub extern "C" fn cormcushion_share_day(
     free_flow: u32,
     compressor: u32,

@@ -12,7 +12,6 @@ use dayfile::{Reading, read_day};
 use dayformat::{Day, MOST_NUMBERS};
 
 // The check of a day file alone: how many numbers its day has.
-#[unsafe(no_mangle)]
 pub extern "C" fn cormcushion_check_day(file: &[u8]) -> u64
     ensures { result ≡ packed_check (file_check (walked file.now)) (numbers_in (walked file.now).counts) }
 {
@@ -21,7 +20,6 @@ pub extern "C" fn cormcushion_check_day(file: &[u8]) -> u64
 }
 
 // A day file read: how many numbers the day has, with them at the front of the lent block, and the head and the counts in `day`.
-#[unsafe(no_mangle)]
 pub extern "C" fn cormcushion_read_day(
     file: &[u8],
     day: &mut [u32; 8],

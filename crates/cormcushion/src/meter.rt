@@ -15,7 +15,6 @@ use tariff::{Charge, overrun_charge};
 use units::{Check, Gigajoules, MOST_RATE, Megajoules, Rate};
 
 // The charge in cents for the greatest of a day's four overruns, with the four and the greatest in `lent`.
-#[unsafe(no_mangle)]
 pub extern "C" fn cormcushion_overruns(
     rate: u32,
     p: u32,
@@ -37,7 +36,6 @@ pub extern "C" fn cormcushion_overruns(
 }
 
 // The same with hours excused (cl. 5.4): yesterday's, delivered, received.
-#[unsafe(no_mangle)]
 pub extern "C" fn cormcushion_overruns_excused(
     rate: u32,
     p: u32,

@@ -13,12 +13,14 @@ returns-then-broken-ne0 c =
 
 pub overflow_add-at : goal.overflow_add-at
 overflow_add-at c =
-    let whole : let args = c.args in Whole args.file.now args.tag args.at = broken-none _ _ _ (sym c.breaks-broken.ensures ∙ c.if-broken-ne0.false) in
+    let whole : Whole c.args.file.now c.args.tag c.args.at =
+    broken-none _ _ _ (sym c.breaks-broken.ensures ∙ c.if-broken-ne0.false) in
     omega (arith, whole.there, c.well_formed.1.1.0.0)
 
 pub read_row-requires : goal.read_row-requires
 read_row-requires c =
-    let whole : let args = c.args in Whole args.file.now args.tag args.at = broken-none _ _ _ (sym c.breaks-broken.ensures ∙ c.if-broken-ne0.false) in
+    let whole : Whole c.args.file.now c.args.tag c.args.at =
+    broken-none _ _ _ (sym c.breaks-broken.ensures ∙ c.if-broken-ne0.false) in
     (omega (arith, whole.there), omega (arith, c.row_place.ensures.1))
 
 pub returns : goal.returns

@@ -8,7 +8,8 @@ use Rattle.dayrows.proofs.row_fault.Goals as goal
 
 pub returns-then-not-keeps_bounds : goal.returns-then-not-keeps_bounds
 unfolding fault
-returns-then-not-keeps_bounds c = let bounds = c.keeps_bounds in rw (← bounds.ensures, not-true bounds.result (ap not c.if-not-keeps_bounds.true))
+returns-then-not-keeps_bounds c =
+    let bounds = c.keeps_bounds in rw (← bounds.ensures, not-true bounds.result (ap not c.if-not-keeps_bounds.true))
 
 pub returns-then-not-keeps_key : goal.returns-then-not-keeps_key
 unfolding fault

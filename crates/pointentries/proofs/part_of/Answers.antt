@@ -8,12 +8,14 @@ use Rattle.pointentries.proofs.part_of.Goals as goal
 
 pub first_entry-row-requires : goal.first_entry-row-requires
 first_entry-row-requires c =
-    let accepted : let args = c.args in list_check args.list.now args.side args.point ≡ Check.Accepted = sym c.check_list-found.ensures.answers ∙ c.in-Accepted.is in
+    let accepted : list_check c.args.list.now c.args.side c.args.point ≡ Check.Accepted =
+    sym c.check_list-found.ensures.answers ∙ c.in-Accepted.is in
     few-rows _ _ _ accepted
 
 pub many_entries-many-requires : goal.many_entries-many-requires
 many_entries-many-requires c =
-    let accepted : let args = c.args in list_check args.list.now args.side args.point ≡ Check.Accepted = sym c.check_list-found.ensures.answers ∙ c.in-Accepted.is in
+    let accepted : list_check c.args.list.now c.args.side c.args.point ≡ Check.Accepted =
+    sym c.check_list-found.ensures.answers ∙ c.in-Accepted.is in
     (c.first_entry-row.ensures.1, few-rows _ _ _ accepted)
 
 pub returns-in-Refused : goal.returns-in-Refused
@@ -23,7 +25,8 @@ returns-in-Refused c =
 
 pub returns-in-Accepted : goal.returns-in-Accepted
 returns-in-Accepted c =
-    let accepted : let args = c.args in list_check args.list.now args.side args.point ≡ Check.Accepted = sym c.check_list-found.ensures.answers ∙ c.in-Accepted.is in
+    let accepted : list_check c.args.list.now c.args.side c.args.point ≡ Check.Accepted =
+    sym c.check_list-found.ensures.answers ∙ c.in-Accepted.is in
     let holds = c.check_list-found.ensures.holds c.in-Accepted.is in
     let begins = c.first_entry-row.ensures.0 in
     part-from _ _ (accepted-start _ _ _ accepted holds begins)

@@ -10,25 +10,30 @@ use Rattle.dayformat.proofs.Sizes.{head-size, fields-small}
 use Rattle.dayformat.proofs.layout.bytes_before.Goals as goal
 
 pub loop-place-init : goal.loop-place-init
-loop-place-init c = (omega (arith, sum-none (λ place. run_size c.args.counts (tag_at place)), head-size), omega arith, omega arith)
+loop-place-init c =
+    (omega (arith, sum-none (λ place. run_size c.args.counts (tag_at place)), head-size), omega arith, omega arith)
 
 pub overflow_add-bytes : goal.overflow_add-bytes
 overflow_add-bytes c = omega (arith, ap (λ form. form.size) c.form_of.ensures, (small c.tag_at-tag.result).size)
 
 pub overflow_mul-bytes : goal.overflow_mul-bytes
 overflow_mul-bytes c =
-    let few : c.count_of.result * (3 + c.form_of.result.size) < 2 ^ 41 = rw c.form_of.ensures (fields-small c.tag_at-tag.result c.count_of.result (omega (arith, c.count_of.type_inv))) in
+    let few : c.count_of.result * (3 + c.form_of.result.size) < 2 ^ 41 =
+    rw c.form_of.ensures (fields-small c.tag_at-tag.result c.count_of.result (omega (arith, c.count_of.type_inv))) in
     omega (arith, few)
 
 pub overflow_add-bytes-in-loop-place : goal.overflow_add-bytes-in-loop-place
 overflow_add-bytes-in-loop-place c =
-    let few : c.count_of.result * (3 + c.form_of.result.size) < 2 ^ 41 = rw c.form_of.ensures (fields-small c.tag_at-tag.result c.count_of.result (omega (arith, c.count_of.type_inv))) in
+    let few : c.count_of.result * (3 + c.form_of.result.size) < 2 ^ 41 =
+    rw c.form_of.ensures (fields-small c.tag_at-tag.result c.count_of.result (omega (arith, c.count_of.type_inv))) in
     omega (arith, few, c.loop-place.invariant.2, c.loop-place-test.true, c.requires)
 
 pub loop-place-preserved : goal.loop-place-preserved
 loop-place-preserved c =
-    let few : c.count_of.result * (3 + c.form_of.result.size) < 2 ^ 41 = rw c.form_of.ensures (fields-small c.tag_at-tag.result c.count_of.result (omega (arith, c.count_of.type_inv))) in
-    let next : c.count_of.result * (3 + c.form_of.result.size) ≡ run_size c.args.counts (tag_at c.loop-place.place) = rw (c.form_of.ensures, ← c.tag_at-tag.ensures, ← c.count_of.ensures) in
+    let few : c.count_of.result * (3 + c.form_of.result.size) < 2 ^ 41 =
+    rw c.form_of.ensures (fields-small c.tag_at-tag.result c.count_of.result (omega (arith, c.count_of.type_inv))) in
+    let next : c.count_of.result * (3 + c.form_of.result.size) ≡ run_size c.args.counts (tag_at c.loop-place.place) =
+    rw (c.form_of.ensures, ← c.tag_at-tag.ensures, ← c.count_of.ensures) in
     let inv = c.loop-place.invariant in (
       omega (
         arith,

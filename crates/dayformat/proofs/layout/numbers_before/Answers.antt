@@ -12,18 +12,22 @@ loop-place-init c = (adding_none _ _, omega arith)
 
 pub overflow_mul-numbers : goal.overflow_mul-numbers
 overflow_mul-numbers c =
-    let few : let columns = (form (tag_at c.loop-place.place)).columns in c.count_of.result * c.form_of.result.columns ≤ columns * 2 ^ 32 = rw (c.form_of.ensures, ← c.tag_at-tag.ensures) (omega (arith, mul-le-mul_right {m = c.count_of.result} {n = 2 ^ 32} (form c.tag_at-tag.result).columns (omega (arith, c.count_of.type_inv)))) in
+    let few : let columns =
+    (form (tag_at c.loop-place.place)).columns in c.count_of.result * c.form_of.result.columns ≤ columns * 2 ^ 32 = rw (c.form_of.ensures, ← c.tag_at-tag.ensures) (omega (arith, mul-le-mul_right {m = c.count_of.result} {n = 2 ^ 32} (form c.tag_at-tag.result).columns (omega (arith, c.count_of.type_inv)))) in
     omega (arith, few, (small (tag_at c.loop-place.place)).columns)
 
 pub overflow_add-numbers : goal.overflow_add-numbers
 overflow_add-numbers c =
-    let few : let columns = (form (tag_at c.loop-place.place)).columns in c.count_of.result * c.form_of.result.columns ≤ columns * 2 ^ 32 = rw (c.form_of.ensures, ← c.tag_at-tag.ensures) (omega (arith, mul-le-mul_right {m = c.count_of.result} {n = 2 ^ 32} (form c.tag_at-tag.result).columns (omega (arith, c.count_of.type_inv)))) in
-    let before : sum c.loop-place.place (λ place. (form (tag_at place)).columns) ≤ 180 = columns_few c.loop-place.place (omega (arith, c.loop-place-test.true, c.requires)) in
+    let few : let columns =
+    (form (tag_at c.loop-place.place)).columns in c.count_of.result * c.form_of.result.columns ≤ columns * 2 ^ 32 = rw (c.form_of.ensures, ← c.tag_at-tag.ensures) (omega (arith, mul-le-mul_right {m = c.count_of.result} {n = 2 ^ 32} (form c.tag_at-tag.result).columns (omega (arith, c.count_of.type_inv)))) in
+    let before : sum c.loop-place.place (λ place. (form (tag_at place)).columns) ≤ 180 =
+    columns_few c.loop-place.place (omega (arith, c.loop-place-test.true, c.requires)) in
     omega (arith, few, (small (tag_at c.loop-place.place)).columns, c.loop-place.invariant.1, before)
 
 pub loop-place-preserved : goal.loop-place-preserved
 loop-place-preserved c =
-    let few : let columns = (form (tag_at c.loop-place.place)).columns in c.count_of.result * c.form_of.result.columns ≤ columns * 2 ^ 32 = rw (c.form_of.ensures, ← c.tag_at-tag.ensures) (omega (arith, mul-le-mul_right {m = c.count_of.result} {n = 2 ^ 32} (form c.tag_at-tag.result).columns (omega (arith, c.count_of.type_inv)))) in
+    let few : let columns =
+    (form (tag_at c.loop-place.place)).columns in c.count_of.result * c.form_of.result.columns ≤ columns * 2 ^ 32 = rw (c.form_of.ensures, ← c.tag_at-tag.ensures) (omega (arith, mul-le-mul_right {m = c.count_of.result} {n = 2 ^ 32} (form c.tag_at-tag.result).columns (omega (arith, c.count_of.type_inv)))) in
     let inv = c.loop-place.invariant in (
       adding_next _ _ inv.0 c.loop-place-test.true
           (rw (c.form_of.ensures, ← c.tag_at-tag.ensures, ← c.count_of.ensures)),

@@ -10,18 +10,23 @@ numbers_before-start-requires c = omega (arith, c.table_place.ensures, inside c.
 
 pub overflow_mul-result : goal.overflow_mul-result
 overflow_mul-result c =
-    let rows : c.args.row * c.form_of.result.columns ≤ 68 * 2 ^ 32 = rw c.form_of.ensures (rows-small c.args.tag c.args.row (omega (arith, c.ranges.row))) in
+    let rows : c.args.row * c.form_of.result.columns ≤ 68 * 2 ^ 32 =
+    rw c.form_of.ensures (rows-small c.args.tag c.args.row (omega (arith, c.ranges.row))) in
     omega (arith, rows)
 
 pub overflow_add-result : goal.overflow_add-result
 overflow_add-result c =
-    let rows : c.args.row * c.form_of.result.columns ≤ 68 * 2 ^ 32 = rw c.form_of.ensures (rows-small c.args.tag c.args.row (omega (arith, c.ranges.row))) in
-    let near : c.numbers_before-start.result ≤ 180 * 2 ^ 32 = omega (arith, c.numbers_before-start.ensures.1, columns_few c.table_place.result (omega (arith, c.table_place.ensures, inside c.args.tag))) in
+    let rows : c.args.row * c.form_of.result.columns ≤ 68 * 2 ^ 32 =
+    rw c.form_of.ensures (rows-small c.args.tag c.args.row (omega (arith, c.ranges.row))) in
+    let near : c.numbers_before-start.result ≤ 180 * 2 ^ 32 =
+    omega (arith, c.numbers_before-start.ensures.1, columns_few c.table_place.result (omega (arith, c.table_place.ensures, inside c.args.tag))) in
     omega (arith, rows, near)
 
 pub returns : goal.returns
 returns c =
-    let rows : c.args.row * c.form_of.result.columns ≤ 68 * 2 ^ 32 = rw c.form_of.ensures (rows-small c.args.tag c.args.row (omega (arith, c.ranges.row))) in
-    let near : c.numbers_before-start.result ≤ 180 * 2 ^ 32 = omega (arith, c.numbers_before-start.ensures.1, columns_few c.table_place.result (omega (arith, c.table_place.ensures, inside c.args.tag))) in
+    let rows : c.args.row * c.form_of.result.columns ≤ 68 * 2 ^ 32 =
+    rw c.form_of.ensures (rows-small c.args.tag c.args.row (omega (arith, c.ranges.row))) in
+    let near : c.numbers_before-start.result ≤ 180 * 2 ^ 32 =
+    omega (arith, c.numbers_before-start.ensures.1, columns_few c.table_place.result (omega (arith, c.table_place.ensures, inside c.args.tag))) in
     let told = c.numbers_before-start.ensures in
     (rw (c.form_of.ensures, ← c.table_place.ensures, ← told.0), omega (arith, rows, near))

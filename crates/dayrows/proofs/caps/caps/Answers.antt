@@ -12,12 +12,14 @@ use Rattle.dayrows.proofs.caps.caps.Goals as goal
 
 pub overflow_add-at : goal.overflow_add-at
 overflow_add-at c =
-    let first : get_or c.names_of-names.result 0 (0 is_a Head) ≡ first_name c.args.tag = first_of c.args.tag c.names_of-names.ensures (0 is_a Head) in
+    let first : get_or c.names_of-names.result 0 (0 is_a Head) ≡ first_name c.args.tag =
+    first_of c.args.tag c.names_of-names.ensures (0 is_a Head) in
     omega (arith, (cap-inside c.args.tag).name, ap (λ name. name.place) first, c.requires)
 
 pub first_difference-requires : goal.first_difference-requires
 first_difference-requires c =
-    let first : get_or c.names_of-names.result 0 (0 is_a Head) ≡ first_name c.args.tag = first_of c.args.tag c.names_of-names.ensures (0 is_a Head) in
+    let first : get_or c.names_of-names.result 0 (0 is_a Head) ≡ first_name c.args.tag =
+    first_of c.args.tag c.names_of-names.ensures (0 is_a Head) in
     let short = small (get_or c.names_of-names.result 0 (0 is_a Head)).tag in
     omega (
       arith,
@@ -33,7 +35,8 @@ first_difference-requires c =
 pub returns-then-first_difference-key : goal.returns-then-first_difference-key
 unfolding caps
 returns-then-first_difference-key c =
-    let first : get_or c.names_of-names.result 0 (0 is_a Head) ≡ first_name c.args.tag = first_of c.args.tag c.names_of-names.ensures (0 is_a Head) in
+    let first : get_or c.names_of-names.result 0 (0 is_a Head) ≡ first_name c.args.tag =
+    first_of c.args.tag c.names_of-names.ensures (0 is_a Head) in
     rw (
       ← first,
       ← ap (λ form. form.key) c.form_of-key.ensures,
@@ -77,7 +80,8 @@ all_under-requires c =
 pub returns : goal.returns
 unfolding caps
 returns c =
-    let first : get_or c.names_of-names.result 0 (0 is_a Head) ≡ first_name c.args.tag = first_of c.args.tag c.names_of-names.ensures (0 is_a Head) in
+    let first : get_or c.names_of-names.result 0 (0 is_a Head) ≡ first_name c.args.tag =
+    first_of c.args.tag c.names_of-names.ensures (0 is_a Head) in
     rw (
       ← first,
       ← ap (λ form. form.key) c.form_of-key.ensures,

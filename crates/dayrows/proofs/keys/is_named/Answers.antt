@@ -14,18 +14,22 @@ use Rattle.dayrows.proofs.keys.is_named.Goals as goal
 
 pub overflow_add-at : goal.overflow_add-at
 overflow_add-at c =
-    let near : (get_or c.names_of-names.result c.loop-next.next (0 is_a Head)).place ≤ 68 = rw c.names_of-names.ensures (names-near c.args.tag _ _ c.loop-next-test.true) in
+    let near : (get_or c.names_of-names.result c.loop-next.next (0 is_a Head)).place ≤ 68 =
+    rw c.names_of-names.ensures (names-near c.args.tag _ _ c.loop-next-test.true) in
     omega (arith, near, c.requires)
 
 pub lists-requires : goal.lists-requires
 lists-requires c =
-    let near : (get_or c.names_of-names.result c.loop-next.next (0 is_a Head)).place ≤ 68 = rw c.names_of-names.ensures (names-near c.args.tag _ _ c.loop-next-test.true) in
+    let near : (get_or c.names_of-names.result c.loop-next.next (0 is_a Head)).place ≤ 68 =
+    rw c.names_of-names.ensures (names-near c.args.tag _ _ c.loop-next-test.true) in
     omega (arith, near, c.requires)
 
 pub returns-then-not-lists : goal.returns-then-not-lists
 returns-then-not-lists c =
-    let long : length c.names_of-names.result ≡ 2 = ap length c.names_of-names.ensures ∙ length_filled 2 (0 is_a Head) (names c.args.tag) in
-    let is : let args = c.args in names_listed args.counts (col args.numbers.now) args.at c.names_of-names.result ≡ named args.counts (col args.numbers.now) args.tag args.at = ap (names_listed _ _ _) c.names_of-names.ensures ∙ listed_filled _ _ _ c.args.tag in
+    let long : length c.names_of-names.result ≡ 2 =
+    ap length c.names_of-names.ensures ∙ length_filled 2 (0 is_a Head) (names c.args.tag) in
+    let is : names_listed c.args.counts (col c.args.numbers.now) c.args.at c.names_of-names.result ≡ named c.args.counts (col c.args.numbers.now) c.args.tag c.args.at =
+    ap (names_listed _ _ _) c.names_of-names.ensures ∙ listed_filled _ _ _ c.args.tag in
     sym
     (sym is
     ∙ sym c.loop-next.invariant.0
@@ -34,7 +38,8 @@ returns-then-not-lists c =
 
 pub loop-next-preserved : goal.loop-next-preserved
 loop-next-preserved c =
-    let long : length c.names_of-names.result ≡ 2 = ap length c.names_of-names.ensures ∙ length_filled 2 (0 is_a Head) (names c.args.tag) in (
+    let long : length c.names_of-names.result ≡ 2 =
+    ap length c.names_of-names.ensures ∙ length_filled 2 (0 is_a Head) (names c.args.tag) in (
       sym
           (listed_next _ _ _ c.names_of-names.result c.loop-next.next _ (omega (arith, c.loop-next-test.true, long))
           (sym c.lists.ensures ∙ not-false c.lists.result (ap not c.if-not-lists.false)))
@@ -45,8 +50,10 @@ loop-next-preserved c =
 pub returns : goal.returns
 unfolding names_listed
 returns c =
-    let long : length c.names_of-names.result ≡ 2 = ap length c.names_of-names.ensures ∙ length_filled 2 (0 is_a Head) (names c.args.tag) in
-    let is : let args = c.args in names_listed args.counts (col args.numbers.now) args.at c.names_of-names.result ≡ named args.counts (col args.numbers.now) args.tag args.at = ap (names_listed _ _ _) c.names_of-names.ensures ∙ listed_filled _ _ _ c.args.tag in
+    let long : length c.names_of-names.result ≡ 2 =
+    ap length c.names_of-names.ensures ∙ length_filled 2 (0 is_a Head) (names c.args.tag) in
+    let is : names_listed c.args.counts (col c.args.numbers.now) c.args.at c.names_of-names.result ≡ named c.args.counts (col c.args.numbers.now) c.args.tag c.args.at =
+    ap (names_listed _ _ _) c.names_of-names.ensures ∙ listed_filled _ _ _ c.args.tag in
     let names = c.names_of-names.result in
     let past = drop_of_length-le names {i = c.loop-next.next} (omega (arith, c.loop-next-test.false, long)) in
     ap (names_listed _ _ _) (sym past) ∙ c.loop-next.invariant.0 ∙ is

@@ -11,17 +11,20 @@ returns-then-row-eq0 c = sym (rises-first _ _ _ _ c.if-row-eq0.true)
 
 pub first_difference-place-requires : goal.first_difference-place-requires
 first_difference-place-requires c =
-    let short : c.form_of-key.result.key ≤ 68 = let body = small c.args.tag in rw c.form_of-key.ensures (omega (arith, body.key, body.columns)) in
+    let short : c.form_of-key.result.key ≤ 68 =
+    let body = small c.args.tag in rw c.form_of-key.ensures (omega (arith, body.key, body.columns)) in
     omega (arith, short, c.row_place-before.ensures.1, c.row_place-here.ensures.1)
 
 pub overflow_add-before : goal.overflow_add-before
 overflow_add-before c =
-    let short : c.form_of-key.result.key ≤ 68 = let body = small c.args.tag in rw c.form_of-key.ensures (omega (arith, body.key, body.columns)) in
+    let short : c.form_of-key.result.key ≤ 68 =
+    let body = small c.args.tag in rw c.form_of-key.ensures (omega (arith, body.key, body.columns)) in
     omega (arith, short, c.row_place-before.ensures.1)
 
 pub overflow_add-here : goal.overflow_add-here
 overflow_add-here c =
-    let short : c.form_of-key.result.key ≤ 68 = let body = small c.args.tag in rw c.form_of-key.ensures (omega (arith, body.key, body.columns)) in
+    let short : c.form_of-key.result.key ≤ 68 =
+    let body = small c.args.tag in rw c.form_of-key.ensures (omega (arith, body.key, body.columns)) in
     omega (arith, short, c.row_place-here.ensures.1)
 
 pub returns-then-place-key : goal.returns-then-place-key

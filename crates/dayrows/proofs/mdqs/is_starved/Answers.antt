@@ -14,19 +14,24 @@ use Rattle.dayrows.proofs.mdqs.is_starved.Goals as goal
 
 pub overflow_add-at : goal.overflow_add-at
 overflow_add-at c =
-    let near : let pair = get_or c.mdqs_of-mdqs.result c.loop-next.next (0 for 0) in (pair.mdq < 68) × (pair.schedule < 68) = let tag = c.args.tag in let inside = pair_inside tag c.mdqs_of-mdqs.ensures c.loop-next.next (0 for 0) c.loop-next-test.true in (omega (arith, inside.0, (small tag).columns), omega (arith, inside.1, (small tag).columns)) in
+    let near : let pair =
+    get_or c.mdqs_of-mdqs.result c.loop-next.next (0 for 0) in (pair.mdq < 68) × (pair.schedule < 68) = let tag = c.args.tag in let inside = pair_inside tag c.mdqs_of-mdqs.ensures c.loop-next.next (0 for 0) c.loop-next-test.true in (omega (arith, inside.0, (small tag).columns), omega (arith, inside.1, (small tag).columns)) in
     omega (arith, near.0, c.requires)
 
 pub overflow_add-at-in-loop-next : goal.overflow_add-at-in-loop-next
 overflow_add-at-in-loop-next c =
-    let near : let pair = get_or c.mdqs_of-mdqs.result c.loop-next.next (0 for 0) in (pair.mdq < 68) × (pair.schedule < 68) = let tag = c.args.tag in let inside = pair_inside tag c.mdqs_of-mdqs.ensures c.loop-next.next (0 for 0) c.loop-next-test.true in (omega (arith, inside.0, (small tag).columns), omega (arith, inside.1, (small tag).columns)) in
+    let near : let pair =
+    get_or c.mdqs_of-mdqs.result c.loop-next.next (0 for 0) in (pair.mdq < 68) × (pair.schedule < 68) = let tag = c.args.tag in let inside = pair_inside tag c.mdqs_of-mdqs.ensures c.loop-next.next (0 for 0) c.loop-next-test.true in (omega (arith, inside.0, (small tag).columns), omega (arith, inside.1, (small tag).columns)) in
     omega (arith, near.1, c.requires)
 
 pub returns-then-is_idle : goal.returns-then-is_idle
 returns-then-is_idle c =
-    let long : length c.mdqs_of-mdqs.result ≡ 2 = ap length c.mdqs_of-mdqs.ensures ∙ length_filled 2 (0 for 0) (mdqs c.args.tag) in
-    let is : let args = c.args in some_idle (col args.numbers.now) args.at c.mdqs_of-mdqs.result ≡ starved (col args.numbers.now) args.tag args.at = ap (some_idle _ _) c.mdqs_of-mdqs.ensures ∙ idle_filled _ _ c.args.tag in
-    let idle-now : let pair = get_or c.mdqs_of-mdqs.result c.loop-next.next (0 for 0) in let args = c.args in c.is_idle.result ≡ idle (col args.numbers.now (args.at + pair.mdq)) (col args.numbers.now (args.at + pair.schedule)) = c.is_idle.ensures ∙ rw (c.number_of.ensures, c.number_of-mdq.ensures) in
+    let long : length c.mdqs_of-mdqs.result ≡ 2 =
+    ap length c.mdqs_of-mdqs.ensures ∙ length_filled 2 (0 for 0) (mdqs c.args.tag) in
+    let is : some_idle (col c.args.numbers.now) c.args.at c.mdqs_of-mdqs.result ≡ starved (col c.args.numbers.now) c.args.tag c.args.at =
+    ap (some_idle _ _) c.mdqs_of-mdqs.ensures ∙ idle_filled _ _ c.args.tag in
+    let idle-now : let pair =
+    get_or c.mdqs_of-mdqs.result c.loop-next.next (0 for 0) in c.is_idle.result ≡ idle (col c.args.numbers.now (c.args.at + pair.mdq)) (col c.args.numbers.now (c.args.at + pair.schedule)) = c.is_idle.ensures ∙ rw (c.number_of.ensures, c.number_of-mdq.ensures) in
     sym
     (sym is
     ∙ sym c.loop-next.invariant.0
@@ -35,8 +40,10 @@ returns-then-is_idle c =
 
 pub loop-next-preserved : goal.loop-next-preserved
 loop-next-preserved c =
-    let long : length c.mdqs_of-mdqs.result ≡ 2 = ap length c.mdqs_of-mdqs.ensures ∙ length_filled 2 (0 for 0) (mdqs c.args.tag) in
-    let idle-now : let pair = get_or c.mdqs_of-mdqs.result c.loop-next.next (0 for 0) in let args = c.args in c.is_idle.result ≡ idle (col args.numbers.now (args.at + pair.mdq)) (col args.numbers.now (args.at + pair.schedule)) = c.is_idle.ensures ∙ rw (c.number_of.ensures, c.number_of-mdq.ensures) in (
+    let long : length c.mdqs_of-mdqs.result ≡ 2 =
+    ap length c.mdqs_of-mdqs.ensures ∙ length_filled 2 (0 for 0) (mdqs c.args.tag) in
+    let idle-now : let pair =
+    get_or c.mdqs_of-mdqs.result c.loop-next.next (0 for 0) in c.is_idle.result ≡ idle (col c.args.numbers.now (c.args.at + pair.mdq)) (col c.args.numbers.now (c.args.at + pair.schedule)) = c.is_idle.ensures ∙ rw (c.number_of.ensures, c.number_of-mdq.ensures) in (
       sym
           (idle-next _ _ c.mdqs_of-mdqs.result c.loop-next.next _ (omega (arith, c.loop-next-test.true, long))
           (sym idle-now ∙ c.if-is_idle.false))
@@ -47,8 +54,10 @@ loop-next-preserved c =
 pub returns : goal.returns
 unfolding some_idle
 returns c =
-    let long : length c.mdqs_of-mdqs.result ≡ 2 = ap length c.mdqs_of-mdqs.ensures ∙ length_filled 2 (0 for 0) (mdqs c.args.tag) in
-    let is : let args = c.args in some_idle (col args.numbers.now) args.at c.mdqs_of-mdqs.result ≡ starved (col args.numbers.now) args.tag args.at = ap (some_idle (col c.args.numbers.now) c.args.at) c.mdqs_of-mdqs.ensures ∙ idle_filled (col c.args.numbers.now) c.args.at c.args.tag in
+    let long : length c.mdqs_of-mdqs.result ≡ 2 =
+    ap length c.mdqs_of-mdqs.ensures ∙ length_filled 2 (0 for 0) (mdqs c.args.tag) in
+    let is : some_idle (col c.args.numbers.now) c.args.at c.mdqs_of-mdqs.result ≡ starved (col c.args.numbers.now) c.args.tag c.args.at =
+    ap (some_idle (col c.args.numbers.now) c.args.at) c.mdqs_of-mdqs.ensures ∙ idle_filled (col c.args.numbers.now) c.args.at c.args.tag in
     let mdqs = c.mdqs_of-mdqs.result in
     let past = drop_of_length-le mdqs {i = c.loop-next.next} (omega (arith, c.loop-next-test.false, long)) in
     ap (some_idle (col c.args.numbers.now) c.args.at) (sym past) ∙ c.loop-next.invariant.0 ∙ is

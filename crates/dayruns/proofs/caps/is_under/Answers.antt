@@ -16,32 +16,42 @@ returns-then-cap-eq0 c = λ yes.
 
 pub overflow_mul-start : goal.overflow_mul-start
 overflow_mul-start c =
-    let inside : let args = c.args in row_start args.counts args.named args.row + (cap args.tag).under + (cap args.tag).many ≤ length args.numbers.now = let under = (cap-inside c.args.tag).under in ⊎_elim (λ none. absurd (c.if-cap-eq0.false (ap (λ cap. cap.many) c.cap_of-cap.ensures ∙ none))) (λ room. omega (arith, room, rw (← c.requires.0) at under)) c.requires.3 in
-    let here : let args = c.args in c.row_place.result + args.row * c.form_of.result.columns ≡ row_start args.counts args.named args.row = row_here c.args.counts c.args.named c.args.numbers.now c.args.at c.args.row c.form_of.ensures c.row_place.ensures.0 c.requires.1 in
+    let inside : row_start c.args.counts c.args.named c.args.row + (cap c.args.tag).under + (cap c.args.tag).many ≤ length c.args.numbers.now =
+    let under = (cap-inside c.args.tag).under in ⊎_elim (λ none. absurd (c.if-cap-eq0.false (ap (λ cap. cap.many) c.cap_of-cap.ensures ∙ none))) (λ room. omega (arith, room, rw (← c.requires.0) at under)) c.requires.3 in
+    let here : c.row_place.result + c.args.row * c.form_of.result.columns ≡ row_start c.args.counts c.args.named c.args.row =
+    row_here c.args.counts c.args.named c.args.numbers.now c.args.at c.args.row c.form_of.ensures c.row_place.ensures.0 c.requires.1 in
     omega (arith, here, inside)
 
 pub overflow_add-start : goal.overflow_add-start
 overflow_add-start c =
-    let inside : let args = c.args in row_start args.counts args.named args.row + (cap args.tag).under + (cap args.tag).many ≤ length args.numbers.now = let under = (cap-inside c.args.tag).under in ⊎_elim (λ none. absurd (c.if-cap-eq0.false (ap (λ cap. cap.many) c.cap_of-cap.ensures ∙ none))) (λ room. omega (arith, room, rw (← c.requires.0) at under)) c.requires.3 in
-    let here : let args = c.args in c.row_place.result + args.row * c.form_of.result.columns ≡ row_start args.counts args.named args.row = row_here c.args.counts c.args.named c.args.numbers.now c.args.at c.args.row c.form_of.ensures c.row_place.ensures.0 c.requires.1 in
+    let inside : row_start c.args.counts c.args.named c.args.row + (cap c.args.tag).under + (cap c.args.tag).many ≤ length c.args.numbers.now =
+    let under = (cap-inside c.args.tag).under in ⊎_elim (λ none. absurd (c.if-cap-eq0.false (ap (λ cap. cap.many) c.cap_of-cap.ensures ∙ none))) (λ room. omega (arith, room, rw (← c.requires.0) at under)) c.requires.3 in
+    let here : c.row_place.result + c.args.row * c.form_of.result.columns ≡ row_start c.args.counts c.args.named c.args.row =
+    row_here c.args.counts c.args.named c.args.numbers.now c.args.at c.args.row c.form_of.ensures c.row_place.ensures.0 c.requires.1 in
     omega (arith, here, inside)
 
 pub overflow_add-at : goal.overflow_add-at
 overflow_add-at c =
-    let own : let args = c.args in args.at + (cap args.tag).place + (cap args.tag).many ≤ length args.numbers.now = omega (arith, c.requires.2, (cap-inside c.args.tag).inside) in
+    let own : c.args.at + (cap c.args.tag).place + (cap c.args.tag).many ≤ length c.args.numbers.now =
+    omega (arith, c.requires.2, (cap-inside c.args.tag).inside) in
     omega (arith, own, ap (λ cap. cap.place) c.cap_of-cap.ensures)
 
 pub overflow_add-start-2 : goal.overflow_add-start-2
 overflow_add-start-2 c =
-    let inside : let args = c.args in row_start args.counts args.named args.row + (cap args.tag).under + (cap args.tag).many ≤ length args.numbers.now = let under = (cap-inside c.args.tag).under in ⊎_elim (λ none. absurd (c.if-cap-eq0.false (ap (λ cap. cap.many) c.cap_of-cap.ensures ∙ none))) (λ room. omega (arith, room, rw (← c.requires.0) at under)) c.requires.3 in
-    let here : let args = c.args in c.row_place.result + args.row * c.form_of.result.columns ≡ row_start args.counts args.named args.row = row_here c.args.counts c.args.named c.args.numbers.now c.args.at c.args.row c.form_of.ensures c.row_place.ensures.0 c.requires.1 in
+    let inside : row_start c.args.counts c.args.named c.args.row + (cap c.args.tag).under + (cap c.args.tag).many ≤ length c.args.numbers.now =
+    let under = (cap-inside c.args.tag).under in ⊎_elim (λ none. absurd (c.if-cap-eq0.false (ap (λ cap. cap.many) c.cap_of-cap.ensures ∙ none))) (λ room. omega (arith, room, rw (← c.requires.0) at under)) c.requires.3 in
+    let here : c.row_place.result + c.args.row * c.form_of.result.columns ≡ row_start c.args.counts c.args.named c.args.row =
+    row_here c.args.counts c.args.named c.args.numbers.now c.args.at c.args.row c.form_of.ensures c.row_place.ensures.0 c.requires.1 in
     omega (arith, here, inside, ap (λ cap. cap.under) c.cap_of-cap.ensures)
 
 pub are_under-requires : goal.are_under-requires
 are_under-requires c =
-    let inside : let args = c.args in row_start args.counts args.named args.row + (cap args.tag).under + (cap args.tag).many ≤ length args.numbers.now = let under = (cap-inside c.args.tag).under in ⊎_elim (λ none. absurd (c.if-cap-eq0.false (ap (λ cap. cap.many) c.cap_of-cap.ensures ∙ none))) (λ room. omega (arith, room, rw (← c.requires.0) at under)) c.requires.3 in
-    let own : let args = c.args in args.at + (cap args.tag).place + (cap args.tag).many ≤ length args.numbers.now = omega (arith, c.requires.2, (cap-inside c.args.tag).inside) in
-    let here : let args = c.args in c.row_place.result + args.row * c.form_of.result.columns ≡ row_start args.counts args.named args.row = row_here c.args.counts c.args.named c.args.numbers.now c.args.at c.args.row c.form_of.ensures c.row_place.ensures.0 c.requires.1 in
+    let inside : row_start c.args.counts c.args.named c.args.row + (cap c.args.tag).under + (cap c.args.tag).many ≤ length c.args.numbers.now =
+    let under = (cap-inside c.args.tag).under in ⊎_elim (λ none. absurd (c.if-cap-eq0.false (ap (λ cap. cap.many) c.cap_of-cap.ensures ∙ none))) (λ room. omega (arith, room, rw (← c.requires.0) at under)) c.requires.3 in
+    let own : c.args.at + (cap c.args.tag).place + (cap c.args.tag).many ≤ length c.args.numbers.now =
+    omega (arith, c.requires.2, (cap-inside c.args.tag).inside) in
+    let here : c.row_place.result + c.args.row * c.form_of.result.columns ≡ row_start c.args.counts c.args.named c.args.row =
+    row_here c.args.counts c.args.named c.args.numbers.now c.args.at c.args.row c.form_of.ensures c.row_place.ensures.0 c.requires.1 in
     let cap = c.cap_of-cap.ensures in
     omega (
       arith,
@@ -55,5 +65,6 @@ are_under-requires c =
 
 pub returns : goal.returns
 returns c =
-    let here : let args = c.args in c.row_place.result + args.row * c.form_of.result.columns ≡ row_start args.counts args.named args.row = row_here c.args.counts c.args.named c.args.numbers.now c.args.at c.args.row c.form_of.ensures c.row_place.ensures.0 c.requires.1 in
+    let here : c.row_place.result + c.args.row * c.form_of.result.columns ≡ row_start c.args.counts c.args.named c.args.row =
+    row_here c.args.counts c.args.named c.args.numbers.now c.args.at c.args.row c.form_of.ensures c.row_place.ensures.0 c.requires.1 in
     rw (← here, ← c.cap_of-cap.ensures) c.are_under.ensures

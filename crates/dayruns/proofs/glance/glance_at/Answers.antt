@@ -12,13 +12,15 @@ returns-then-not-is_file c = unseen _ _ _ _ _ _ _
 
 pub glance_at_entry-requires : goal.glance_at_entry-requires
 glance_at_entry-requires c =
-    let is_entry : c.args.tag ≡ Entry = byte_tells _ _ (sym (ap (λ form. form.byte) c.form_of.ensures) ∙ c.if-form_of-eq-ENTRY_BYTE.true) in
+    let is_entry : c.args.tag ≡ Entry =
+    byte_tells _ _ (sym (ap (λ form. form.byte) c.form_of.ensures) ∙ c.if-form_of-eq-ENTRY_BYTE.true) in
     placed_as c.args.counts c.args.row c.args.to is_entry c.requires
 
 pub returns-then-form_of-eq-ENTRY_BYTE : goal.returns-then-form_of-eq-ENTRY_BYTE
 returns-then-form_of-eq-ENTRY_BYTE c =
     let in-file : c.args.source ≡ File = let asked = c.is_file in asked.ensures c.if-not-is_file.false in
-    let is_entry : c.args.tag ≡ Entry = byte_tells _ _ (sym (ap (λ form. form.byte) c.form_of.ensures) ∙ c.if-form_of-eq-ENTRY_BYTE.true) in
+    let is_entry : c.args.tag ≡ Entry =
+    byte_tells _ _ (sym (ap (λ form. form.byte) c.form_of.ensures) ∙ c.if-form_of-eq-ENTRY_BYTE.true) in
     rw (is_entry, in-file) c.glance_at_entry.ensures
 
 pub returns : goal.returns

@@ -37,7 +37,7 @@ pub returns : goal.returns
 returns c =
     let args = c.args in
     let found : c.row_keyed_from-first.result < count args.counts (get_or c.names_of-names.result 0 (0 is_a Head)).tag =
-        omega (arith, c.if-count_of-first.false, c.count_of.ensures) in
+    omega (arith, c.if-count_of-first.false, c.count_of.ensures) in
     let same = c.row_keyed_from-first.ensures found in
     let other = c.row_keyed_from-second.ensures (omega (arith, c.if-count_of-second.false, c.count_of-2.ensures)) in
     glanced _ _ _ _ _ _ _ c.see_row.ensures

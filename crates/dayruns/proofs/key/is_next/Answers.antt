@@ -19,12 +19,14 @@ returns-then-row-eq0 c =
 
 pub overflow_sub-here : goal.overflow_sub-here
 overflow_sub-here c =
-    let room : c.form_of-form.result.columns ≤ c.args.here = rw (c.form_of-form.ensures, c.requires.0) (room-before c.args.counts c.args.tag c.args.row c.if-row-eq0.false) in
+    let room : c.form_of-form.result.columns ≤ c.args.here =
+    rw (c.form_of-form.ensures, c.requires.0) (room-before c.args.counts c.args.tag c.args.row c.if-row-eq0.false) in
     omega (arith, room)
 
 pub is_less-requires : goal.is_less-requires
 is_less-requires c =
-    let room : c.form_of-form.result.columns ≤ c.args.here = rw (c.form_of-form.ensures, c.requires.0) (room-before c.args.counts c.args.tag c.args.row c.if-row-eq0.false) in
+    let room : c.form_of-form.result.columns ≤ c.args.here =
+    rw (c.form_of-form.ensures, c.requires.0) (room-before c.args.counts c.args.tag c.args.row c.if-row-eq0.false) in
     let key = ap (λ c. c.key) c.form_of-form.ensures in
     omega (arith, c.requires.1, key, (small c.args.tag).key, room)
 

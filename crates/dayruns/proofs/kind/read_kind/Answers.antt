@@ -12,22 +12,26 @@ loop-place-init c = reading-none _ _ _ _ _
 
 pub overflow_mul-byte : goal.overflow_mul-byte
 overflow_mul-byte c =
-    let there : let args = c.args in args.from.byte + c.loop-place.place * args.column.width + args.column.width ≤ length args.file.now = let args = c.args in number-there args.from.byte args.many args.column.width c.loop-place.place c.loop-place-test.true c.requires.1 in
+    let there : c.args.from.byte + c.loop-place.place * c.args.column.width + c.args.column.width ≤ length c.args.file.now =
+    number-there c.args.from.byte c.args.many c.args.column.width c.loop-place.place c.loop-place-test.true c.requires.1 in
     omega (arith, there)
 
 pub overflow_add-byte : goal.overflow_add-byte
 overflow_add-byte c =
-    let there : let args = c.args in args.from.byte + c.loop-place.place * args.column.width + args.column.width ≤ length args.file.now = let args = c.args in number-there args.from.byte args.many args.column.width c.loop-place.place c.loop-place-test.true c.requires.1 in
+    let there : c.args.from.byte + c.loop-place.place * c.args.column.width + c.args.column.width ≤ length c.args.file.now =
+    number-there c.args.from.byte c.args.many c.args.column.width c.loop-place.place c.loop-place-test.true c.requires.1 in
     omega (arith, there)
 
 pub overflow_add-byte-in-loop-place : goal.overflow_add-byte-in-loop-place
 overflow_add-byte-in-loop-place c =
-    let there : let args = c.args in args.from.byte + c.loop-place.place * args.column.width + args.column.width ≤ length args.file.now = let args = c.args in number-there args.from.byte args.many args.column.width c.loop-place.place c.loop-place-test.true c.requires.1 in
+    let there : c.args.from.byte + c.loop-place.place * c.args.column.width + c.args.column.width ≤ length c.args.file.now =
+    number-there c.args.from.byte c.args.many c.args.column.width c.loop-place.place c.loop-place-test.true c.requires.1 in
     omega (arith, there)
 
 pub slice_bounds-number_at-end : goal.slice_bounds-number_at-end
 slice_bounds-number_at-end c =
-    let there : let args = c.args in args.from.byte + c.loop-place.place * args.column.width + args.column.width ≤ length args.file.now = let args = c.args in number-there args.from.byte args.many args.column.width c.loop-place.place c.loop-place-test.true c.requires.1 in
+    let there : c.args.from.byte + c.loop-place.place * c.args.column.width + c.args.column.width ≤ length c.args.file.now =
+    number-there c.args.from.byte c.args.many c.args.column.width c.loop-place.place c.loop-place-test.true c.requires.1 in
     omega (arith, there)
 
 pub loop-place-preserved : goal.loop-place-preserved

@@ -9,12 +9,14 @@ loop-row-init c = tt
 
 pub overflow_mul-row : goal.overflow_mul-row
 overflow_mul-row c =
-    let few : c.loop-row.row * c.form_of-form.result.columns ≤ 68 * 2 ^ 32 = let row : c.loop-row.row < 2 ^ 32 = omega (arith, c.loop-row-test.true, c.count_of-rows.type_inv) in rw c.form_of-form.ensures (rows-small c.args.tag c.loop-row.row row) in
+    let few : c.loop-row.row * c.form_of-form.result.columns ≤ 68 * 2 ^ 32 =
+    let row : c.loop-row.row < 2 ^ 32 = omega (arith, c.loop-row-test.true, c.count_of-rows.type_inv) in rw c.form_of-form.ensures (rows-small c.args.tag c.loop-row.row row) in
     omega (arith, few)
 
 pub overflow_add-start : goal.overflow_add-start
 overflow_add-start c =
-    let few : c.loop-row.row * c.form_of-form.result.columns ≤ 68 * 2 ^ 32 = let row : c.loop-row.row < 2 ^ 32 = omega (arith, c.loop-row-test.true, c.count_of-rows.type_inv) in rw c.form_of-form.ensures (rows-small c.args.tag c.loop-row.row row) in
+    let few : c.loop-row.row * c.form_of-form.result.columns ≤ 68 * 2 ^ 32 =
+    let row : c.loop-row.row < 2 ^ 32 = omega (arith, c.loop-row-test.true, c.count_of-rows.type_inv) in rw c.form_of-form.ensures (rows-small c.args.tag c.loop-row.row row) in
     omega (arith, few, c.row_place-start.ensures.1)
 
 pub is_same-requires : goal.is_same-requires

@@ -16,25 +16,29 @@ returns-then-not-is_ready c = unread _ _ _ _ _ _
 
 pub overflow_add-from : goal.overflow_add-from
 overflow_add-from c =
-    let ready : let args = c.args in Ready args.file.now Entry args.at args.to (length args.numbers.now) = let asked = c.is_ready in asked.ensures c.if-not-is_ready.false in
-    let room : let args = c.args in BodyRoom Entry args.file.now (record { byte = args.at + 3; to = args.to; kept = true }) args.numbers.now = let args = c.args in ready-room args.file.now Entry args.at args.to true args.numbers.now ready in
+    let ready : Ready c.args.file.now Entry c.args.at c.args.to (length c.args.numbers.now) =
+    let asked = c.is_ready in asked.ensures c.if-not-is_ready.false in
+    let room : BodyRoom Entry c.args.file.now (record { byte = c.args.at + 3; to = c.args.to; kept = true }) c.args.numbers.now = ready-room c.args.file.now Entry c.args.at c.args.to true c.args.numbers.now ready in
     omega (arith, room.0, c.well_formed.1.0.0)
 
 pub read_entry-read-requires : goal.read_entry-read-requires
 read_entry-read-requires c =
-    let ready : let args = c.args in Ready args.file.now Entry args.at args.to (length args.numbers.now) = let asked = c.is_ready in asked.ensures c.if-not-is_ready.false in
-    let room : let args = c.args in BodyRoom Entry args.file.now (record { byte = args.at + 3; to = args.to; kept = true }) args.numbers.now = let args = c.args in ready-room args.file.now Entry args.at args.to true args.numbers.now ready in
+    let ready : Ready c.args.file.now Entry c.args.at c.args.to (length c.args.numbers.now) =
+    let asked = c.is_ready in asked.ensures c.if-not-is_ready.false in
+    let room : BodyRoom Entry c.args.file.now (record { byte = c.args.at + 3; to = c.args.to; kept = true }) c.args.numbers.now = ready-room c.args.file.now Entry c.args.at c.args.to true c.args.numbers.now ready in
     room
 
 pub is_next-requires : goal.is_next-requires
 is_next-requires c =
-    let ready : let args = c.args in Ready args.file.now Entry args.at args.to (length args.numbers.now) = let asked = c.is_ready in asked.ensures c.if-not-is_ready.false in
+    let ready : Ready c.args.file.now Entry c.args.at c.args.to (length c.args.numbers.now) =
+    let asked = c.is_ready in asked.ensures c.if-not-is_ready.false in
     (c.requires.0, omega (arith, ready.1, c.read_entry-read.auto.numbers))
 
 pub returns : goal.returns
 unfolding some_idle
 returns c =
-    let ready : let args = c.args in Ready args.file.now Entry args.at args.to (length args.numbers.now) = let asked = c.is_ready in asked.ensures c.if-not-is_ready.false in
-    let room : let args = c.args in BodyRoom Entry args.file.now (record { byte = args.at + 3; to = args.to; kept = true }) args.numbers.now = let args = c.args in ready-room args.file.now Entry args.at args.to true args.numbers.now ready in
+    let ready : Ready c.args.file.now Entry c.args.at c.args.to (length c.args.numbers.now) =
+    let asked = c.is_ready in asked.ensures c.if-not-is_ready.false in
+    let room : BodyRoom Entry c.args.file.now (record { byte = c.args.at + 3; to = c.args.to; kept = true }) c.args.numbers.now = ready-room c.args.file.now Entry c.args.at c.args.to true c.args.numbers.now ready in
     row_plain _ _ Entry _ _ _ c.requires.0 ready
     (body-read Entry c.read_entry-read.ensures room) c.is_next.ensures refl c.both.ensures

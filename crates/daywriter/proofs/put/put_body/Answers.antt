@@ -14,12 +14,14 @@ loop-place-init c =
 
 pub overflow_add-from : goal.overflow_add-from
 overflow_add-from c =
-    let inside : c.loop-place.place < (form c.args.tag).columns = omega (arith, c.loop-place-test.true, ap (λ form. form.columns) c.form_of-columns.ensures) in
+    let inside : c.loop-place.place < (form c.args.tag).columns =
+    omega (arith, c.loop-place-test.true, ap (λ form. form.columns) c.form_of-columns.ensures) in
     omega (arith, c.requires.0, inside, (small c.args.tag).columns)
 
 pub overflow_add-byte : goal.overflow_add-byte
 overflow_add-byte c =
-    let inside : c.loop-place.place < (form c.args.tag).columns = omega (arith, c.loop-place-test.true, ap (λ form. form.columns) c.form_of-columns.ensures) in
+    let inside : c.loop-place.place < (form c.args.tag).columns =
+    omega (arith, c.loop-place-test.true, ap (λ form. form.columns) c.form_of-columns.ensures) in
     omega (
       arith,
       c.requires.1,
@@ -32,7 +34,8 @@ overflow_add-byte c =
 
 pub loop-place-preserved : goal.loop-place-preserved
 loop-place-preserved c =
-    let inside : c.loop-place.place < (form c.args.tag).columns = omega (arith, c.loop-place-test.true, ap (λ form. form.columns) c.form_of-columns.ensures) in
+    let inside : c.loop-place.place < (form c.args.tag).columns =
+    omega (arith, c.loop-place-test.true, ap (λ form. form.columns) c.form_of-columns.ensures) in
     let args = c.args in (
       lays-next (col args.numbers.now) args.tag args.from args.block.now args.at c.loop-place.place c.loop-place.byte
           c.loop-place.invariant.0 inside c.column_at-width.ensures c.number_of-number.ensures c.put_number.ensures,

@@ -17,12 +17,14 @@ loop-row-init c = (fielding_none _ _ _ _ _, omega arith)
 
 pub put_field-requires : goal.put_field-requires
 put_field-requires c =
-    let passed : c.loop-row.row * field_size c.args.tag < 2 ^ 41 = fields-small c.args.tag c.loop-row.row (omega (arith, c.loop-row-test.true)) in
+    let passed : c.loop-row.row * field_size c.args.tag < 2 ^ 41 =
+    fields-small c.args.tag c.loop-row.row (omega (arith, c.loop-row-test.true)) in
     (c.row_place.ensures.1, omega (arith, passed, c.loop-row.invariant.0.ends, c.requires))
 
 pub overflow_add-byte : goal.overflow_add-byte
 overflow_add-byte c =
-    let passed : c.loop-row.row * field_size c.args.tag < 2 ^ 41 = fields-small c.args.tag c.loop-row.row (omega (arith, c.loop-row-test.true)) in
+    let passed : c.loop-row.row * field_size c.args.tag < 2 ^ 41 =
+    fields-small c.args.tag c.loop-row.row (omega (arith, c.loop-row-test.true)) in
     omega (
       arith,
       passed,

@@ -11,7 +11,8 @@ use Rattle.overruns.proofs.twelve_hourly.next_sum.Goals as goal
 pub overflow_add-sum : goal.overflow_add-sum
 overflow_add-sum c =
     let low = c.requires.hours_len.1 in
-    let most : c.args.before.0 ≤ 12 * most_hour = omega (arith, c.requires.before_value, gas-most (col c.args.hours.now) low 12) in
+    let most : c.args.before.0 ≤ 12 * most_hour =
+    omega (arith, c.requires.before_value, gas-most (col c.args.hours.now) low 12) in
     record { fits = lt_of_le_of_lt (add-le-add most (low _)) (omega arith) }
 
 pub overflow_sub-sum : goal.overflow_sub-sum

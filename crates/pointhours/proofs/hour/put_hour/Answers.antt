@@ -25,8 +25,10 @@ pub returns-in-Refused : goal.returns-in-Refused
 returns-in-Refused c =
     let mdq-of : ℕ → ℕ = mdq_in c.args.counts (col c.args.numbers.now) c.args.part.now in
     let few : entries_in c.args.part.now ≤ most_entries = omega arith in
-    let entitlements-front : take c.entries_in-many.result c.entitlements_in-entitlements.result ≡ listed (entries_in c.args.part.now) (entitlement_in c.args.part.now) = front_is (entries_in c.args.part.now) (entitlement_in c.args.part.now) few c.entries_in-many.ensures.0 c.entitlements_in-entitlements.ensures in
-    let mdqs-front : take c.entries_in-many.result c.mdqs_in-mdqs.result ≡ listed (entries_in c.args.part.now) mdq-of = front_is (entries_in c.args.part.now) mdq-of few c.entries_in-many.ensures.0 c.mdqs_in-mdqs.ensures in (
+    let entitlements-front : take c.entries_in-many.result c.entitlements_in-entitlements.result ≡ listed (entries_in c.args.part.now) (entitlement_in c.args.part.now) =
+    front_is (entries_in c.args.part.now) (entitlement_in c.args.part.now) few c.entries_in-many.ensures.0 c.entitlements_in-entitlements.ensures in
+    let mdqs-front : take c.entries_in-many.result c.mdqs_in-mdqs.result ≡ listed (entries_in c.args.part.now) mdq-of =
+    front_is (entries_in c.args.part.now) mdq-of few c.entries_in-many.ensures.0 c.mdqs_in-mdqs.ensures in (
       hour-refused c.args.capacity.0 (entries_in c.args.part.now) (shipper_in c.args.part.now)
           (entitlement_in c.args.part.now) mdq-of few entitlements-front mdqs-front
           (length-replicate {A = ℕ} most_entries 0)
@@ -38,8 +40,10 @@ pub returns-in-Shared : goal.returns-in-Shared
 returns-in-Shared c =
     let mdq-of : ℕ → ℕ = mdq_in c.args.counts (col c.args.numbers.now) c.args.part.now in
     let few : entries_in c.args.part.now ≤ most_entries = omega arith in
-    let entitlements-front : take c.entries_in-many.result c.entitlements_in-entitlements.result ≡ listed (entries_in c.args.part.now) (entitlement_in c.args.part.now) = front_is (entries_in c.args.part.now) (entitlement_in c.args.part.now) few c.entries_in-many.ensures.0 c.entitlements_in-entitlements.ensures in
-    let mdqs-front : take c.entries_in-many.result c.mdqs_in-mdqs.result ≡ listed (entries_in c.args.part.now) mdq-of = front_is (entries_in c.args.part.now) mdq-of few c.entries_in-many.ensures.0 c.mdqs_in-mdqs.ensures in (
+    let entitlements-front : take c.entries_in-many.result c.entitlements_in-entitlements.result ≡ listed (entries_in c.args.part.now) (entitlement_in c.args.part.now) =
+    front_is (entries_in c.args.part.now) (entitlement_in c.args.part.now) few c.entries_in-many.ensures.0 c.entitlements_in-entitlements.ensures in
+    let mdqs-front : take c.entries_in-many.result c.mdqs_in-mdqs.result ≡ listed (entries_in c.args.part.now) mdq-of =
+    front_is (entries_in c.args.part.now) mdq-of few c.entries_in-many.ensures.0 c.mdqs_in-mdqs.ensures in (
       hour-shared c.args.capacity.0 (entries_in c.args.part.now) (shipper_in c.args.part.now)
           (entitlement_in c.args.part.now) mdq-of few entitlements-front mdqs-front
           (length-replicate {A = ℕ} most_entries 0)

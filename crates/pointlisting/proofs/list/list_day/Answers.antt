@@ -19,13 +19,15 @@ slice_bounds-lay_points-end c =
 pub slice_bounds-lay_points-count : goal.slice_bounds-lay_points-count
 slice_bounds-lay_points-count c =
     let bytes_of : AreBytes c.args.file.now = λ i. (c.shared_slice_known-2-1.given i).fits in
-    let inside : c.first_delivery-split.result ≤ length (take (c.entries_end-end.result - c.entries_start-start.result) (drop c.entries_start-start.result c.args.file.now)) = split-inside _ bytes_of _ _ c.requires c.entries_start-start.ensures c.entries_end-end.ensures c.first_delivery-split.ensures in
+    let inside : c.first_delivery-split.result ≤ length (take (c.entries_end-end.result - c.entries_start-start.result) (drop c.entries_start-start.result c.args.file.now)) =
+    split-inside _ bytes_of _ _ c.requires c.entries_start-start.ensures c.entries_end-end.ensures c.first_delivery-split.ensures in
     inside
 
 pub slice_bounds-lay_points-start : goal.slice_bounds-lay_points-start
 slice_bounds-lay_points-start c =
     let bytes_of : AreBytes c.args.file.now = λ i. (c.shared_slice_known-2-1.given i).fits in
-    let inside : c.first_delivery-split.result ≤ length (take (c.entries_end-end.result - c.entries_start-start.result) (drop c.entries_start-start.result c.args.file.now)) = split-inside _ bytes_of _ _ c.requires c.entries_start-start.ensures c.entries_end-end.ensures c.first_delivery-split.ensures in
+    let inside : c.first_delivery-split.result ≤ length (take (c.entries_end-end.result - c.entries_start-start.result) (drop c.entries_start-start.result c.args.file.now)) =
+    split-inside _ bytes_of _ _ c.requires c.entries_start-start.ensures c.entries_end-end.ensures c.first_delivery-split.ensures in
     inside
 
 pub lay_points-requires : goal.lay_points-requires
