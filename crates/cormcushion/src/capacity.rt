@@ -9,7 +9,7 @@ use rounds::share_round;
 use units::Gigajoules;
 
 // One sharing round: its level, with the shares at the front of the lent list.
-pub extern "C" fn cormcushion_share_round(
+pub fn cormcushion_share_round(
     capacity: u32,
     weights: &[u32],
     needs: &[u32],
@@ -21,7 +21,7 @@ pub extern "C" fn cormcushion_share_round(
 }
 
 // A day's shares: LEFT, with each class's shares at the front of its lent list, and the levels of the five rounds in `levels`.
-pub extern "C" fn cormcushion_share_day(
+pub fn cormcushion_share_day(
     free_flow: u32,
     compressor: u32,
     firm_mdq: &[u32],

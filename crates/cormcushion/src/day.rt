@@ -12,7 +12,7 @@ use dayfile::{Reading, read_day};
 use dayformat::{Day, MOST_NUMBERS};
 
 // The check of a day file alone: how many numbers its day has.
-pub extern "C" fn cormcushion_check_day(file: &[u8]) -> u64
+pub fn cormcushion_check_day(file: &[u8]) -> u64
     ensures { result ≡ packed_check (file_check (walked file.now)) (numbers_in (walked file.now).counts) }
 {
     let mut numbers = [0usize; MOST_NUMBERS];
@@ -20,11 +20,7 @@ pub extern "C" fn cormcushion_check_day(file: &[u8]) -> u64
 }
 
 // A day file read: how many numbers the day has, with them at the front of the lent block, and the head and the counts in `day`.
-pub extern "C" fn cormcushion_read_day(
-    file: &[u8],
-    day: &mut [u32; 8],
-    numbers: &mut [usize],
-) -> u64
+pub fn cormcushion_read_day(file: &[u8], day: &mut [u32; 8], numbers: &mut [usize]) -> u64
     ensures { ReadingPacked file.now day.old numbers.old result
         day.new numbers.new }
 {

@@ -15,7 +15,7 @@ use tariff::{Charge, overrun_charge};
 use units::{Check, Gigajoules, MOST_RATE, Megajoules, Rate};
 
 // The charge in cents for the greatest of a day's four overruns, with the four and the greatest in `lent`.
-pub extern "C" fn cormcushion_overruns(
+pub fn cormcushion_overruns(
     rate: u32,
     p: u32,
     m: u32,
@@ -36,7 +36,7 @@ pub extern "C" fn cormcushion_overruns(
 }
 
 // The same with hours excused (cl. 5.4): yesterday's, delivered, received.
-pub extern "C" fn cormcushion_overruns_excused(
+pub fn cormcushion_overruns_excused(
     rate: u32,
     p: u32,
     m: u32,

@@ -11,7 +11,7 @@ use crate::answers::of_listing;
 use units::Rate;
 
 // The listing of a day's shares.
-pub extern "C" fn cormcushion_list_shares(file: &[u8], text: &mut [u8]) -> u64
+pub fn cormcushion_list_shares(file: &[u8], text: &mut [u8]) -> u64
     ensures { ListingPacked (file_check (walked file.now)) (shares_listing file.now)
         text.old text.new result }
 {
@@ -19,7 +19,7 @@ pub extern "C" fn cormcushion_list_shares(file: &[u8], text: &mut [u8]) -> u64
 }
 
 // The listing of a day's expected overrun charges at a rate.
-pub extern "C" fn cormcushion_list_charges(file: &[u8], rate: u32, text: &mut [u8]) -> u64
+pub fn cormcushion_list_charges(file: &[u8], rate: u32, text: &mut [u8]) -> u64
     ensures { ListingPacked (charges_check (record { 0 = rate }) file.now)
         (charges_listing (record { 0 = rate }) file.now)
         text.old text.new result }
@@ -28,7 +28,7 @@ pub extern "C" fn cormcushion_list_charges(file: &[u8], rate: u32, text: &mut [u
 }
 
 // The listing of the hours at a day's points.
-pub extern "C" fn cormcushion_list_points(file: &[u8], text: &mut [u8]) -> u64
+pub fn cormcushion_list_points(file: &[u8], text: &mut [u8]) -> u64
     ensures { ListingPacked (file_check (walked file.now)) (points_listing file.now)
         text.old text.new result }
 {
@@ -36,7 +36,7 @@ pub extern "C" fn cormcushion_list_points(file: &[u8], text: &mut [u8]) -> u64
 }
 
 // The statement of a month, from its days as rows of eight numbers.
-pub extern "C" fn cormcushion_month_statement(numbers: &[u64], text: &mut [u8]) -> u64
+pub fn cormcushion_month_statement(numbers: &[u64], text: &mut [u8]) -> u64
     ensures { ListingPacked (month_check numbers.now) (month_listing numbers.now)
         text.old text.new result }
 {

@@ -1,0 +1,59 @@
+// Capacity shared out: one round, and a day.
+ghost use Rattle.cormcushion.specs.Lent.{RoundPacked, SharesPacked};
+
+// One sharing round: its level, with the shares at the front of the lent list.
+#[unsafe(no_mangle)]
+pub extern "C" fn cormcushion_share_round(
+    capacity: u32,
+    weights: &[u32],
+    needs: &[u32],
+    shares: &mut [u32],
+) -> u64
+    ensures { RoundPacked capacity weights.now needs.now shares.old result shares.new }
+{
+    cormcushion::cormcushion_share_round(capacity, weights, needs, shares)
+}
+
+// A day's shares: LEFT, with each class's shares at the front of its lent list, and the levels of the five rounds in `levels`.
+#[unsafe(no_mangle)]
+pub extern "C" fn cormcushion_share_day(
+    free_flow: u32,
+    compressor: u32,
+    firm_mdq: &[u32],
+    auction_mdq: &[u32],
+    firm_schedule: &[u32],
+    auction_schedule: &[u32],
+    lower_tier_schedule: &[u32],
+    firm: &mut [u32],
+    auction: &mut [u32],
+    lower_tier: &mut [u32],
+    levels: &mut [u64; 5],
+) -> u64
+    ensures { SharesPacked
+        (record {
+          free_flow = free_flow;
+          compressor = compressor;
+          firm_mdq = firm_mdq.now;
+          auction_mdq = auction_mdq.now;
+          firm_schedule = firm_schedule.now;
+          auction_schedule = auction_schedule.now;
+          lower_tier_schedule = lower_tier_schedule.now;
+        })
+        firm.old auction.old lower_tier.old levels.old
+        result
+        firm.new auction.new lower_tier.new levels.new }
+{
+    cormcushion::cormcushion_share_day(
+        free_flow,
+        compressor,
+        firm_mdq,
+        auction_mdq,
+        firm_schedule,
+        auction_schedule,
+        lower_tier_schedule,
+        firm,
+        auction,
+        lower_tier,
+        levels,
+    )
+}

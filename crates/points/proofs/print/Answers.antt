@@ -1,7 +1,0 @@
--- The part has as many bytes as are asked for.
-use mathlib.Core.Path.{sym}
-use lib.Seq.{length-take-le}
-use Rattle.points.proofs.print.Goals as goal
-
-pub slice_bounds-write_all-end : goal.slice_bounds-write_all-end
-slice_bounds-write_all-end c = sym (length-take-le _ _ c.if-size-text.true)
