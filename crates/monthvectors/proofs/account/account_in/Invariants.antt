@@ -1,9 +1,6 @@
--- The loop counts up to the days that are told, at most 31.
-use Prim.Native.Nat.{◌-◌, ◌≤◌}
+-- The loop counts up to the days that are told.
+use Rattle.std.proofs.Common.{◌-◌}
 use Rattle.monthvectors.proofs.account.account_in.Given as goal
-
-abbrev pub invariant-loop-row : goal.invariant-loop-row
-invariant-loop-row l = (l.row ≤ l.told) × (l.told ≤ 31)
 
 abbrev pub decreases-loop-row : goal.decreases-loop-row
 decreases-loop-row l = l.told - l.row
