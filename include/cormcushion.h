@@ -1,5 +1,5 @@
-/* Cormcushion for callers in C, and in whatever can call C: link libcormcushion.a, which `rt staticlib cormcushion` writes for x86-64.
- * It calls memcpy and memset, and nothing else.
+/* Cormcushion for callers in C, and in whatever can call C: link libcormcushion.a, which `bash callers/build` makes for x86-64
+ * of the crate cormcushion_c. It calls memcpy and memset, and nothing else.
  *
  * Every function takes every input that its parameters can hold, returns, and writes to nothing but what is lent to it. What nothing
  * checks is the call itself: a pointer must lead to as many elements as the count behind it says, or as its parameter's brackets say,
@@ -10,7 +10,7 @@
  * is lent to write.
  *
  * Stack: have 192 kB free for a function that lists or checks a file, 96 kB for cormcushion_read_day, 32 kB for
- * cormcushion_month_statement, 16 kB for the others; no proof speaks of it. They take 176, 88, 19 and 6 kB at most: so much do the
+ * cormcushion_month_statement, 16 kB for the others; no proof speaks of it. They take 176, 87, 17 and 6 kB at most: so much do the
  * frames in the archive come to along every chain of calls, none of which comes back to itself. Before there was tag 9 so counted
  * frames were as deep as calls wrote on stacks filled with a pattern. Where memcpy and memset are bound at their first call, the
  * loader took 3.5 kB more for it. Where the stack is shorter the process ends at its guard page.
