@@ -12,7 +12,7 @@ use units::Check;
 
 // Takes a day in. A refused day changes nothing.
 pub fn take_in(account: &mut Account, day: AccountDay) -> Check
-    ensures { take_in account.entry.now day ≡ record { account = account.exit.now; found = result } }
+    ensures { take_in account.old day ≡ record { account = account.new; found = result } }
 {
     let taken = Account::take_in(*account, day);
     *account = taken.account;
@@ -21,7 +21,7 @@ pub fn take_in(account: &mut Account, day: AccountDay) -> Check
 
 // Totals up. The account is as it was.
 pub fn total_up(account: &mut Account) -> Total
-    ensures { total_up account.entry.now ≡ record { account = account.exit.now; total = result } }
+    ensures { total_up account.old ≡ record { account = account.new; total = result } }
 {
     let totalled = Account::total_up(*account);
     *account = totalled.account;
@@ -30,8 +30,8 @@ pub fn total_up(account: &mut Account) -> Total
 
 // Closes the month: its statement stands at the front of the lent block, and the account is empty. A refusal changes nothing.
 pub fn close(account: &mut Account, lent: &mut [u8]) -> Listing
-    ensures { ClosingAnswered account.entry.now lent.old lent.new
-        (record { account = account.exit.now; listing = result }) }
+    ensures { ClosingAnswered account.old lent.old lent.new
+        (record { account = account.new; listing = result }) }
 {
     let closed = Account::close(*account, lent);
     *account = closed.account;
