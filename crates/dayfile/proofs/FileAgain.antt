@@ -48,7 +48,8 @@ module _ (file : List ℕ) (none : head_fault file ≡ 0) where
   head-whole : Whole file Head 0
   head-whole =
       broken-none file Head 0
-      (ap (λ at. broken file Head at) (sym first) ∙ (field-none (head_fields file) (λ rows. col (rows_of (head_fields file) rows)) 0 none).0)
+      (ap (λ at. broken file Head at) (sym first)
+      ∙ (field-none (head_fields file) (λ rows. col (rows_of (head_fields file) rows)) 0 none).0)
 
   head-place : (headed file).place ≡ field_size Head
   unfolding headed

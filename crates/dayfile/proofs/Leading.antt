@@ -59,7 +59,8 @@ leads-rows known row m n l =
 pub leads-more : (known numbers : List ℕ) (start long : ℕ) (row : ℕ → List ℕ) → Leads known numbers → length known ≡ start
     → ((i : ℕ) → row i ≡ listed long (λ place. col numbers (start + i * long + place))) → (m : ℕ) → start + m * long ≤ length numbers
     → Leads (known ++ joined m row) numbers
-leads-more known numbers start long row leads begins cut m room = (omega (arith, whole), λ place l. by place l (dec_lt place (length known)))
+leads-more known numbers start long row leads begins cut m room =
+    (omega (arith, whole), λ place l. by place l (dec_lt place (length known)))
   where
     all : joined m row ≡ listed (m * long) (λ place. col numbers (start + place))
     all =

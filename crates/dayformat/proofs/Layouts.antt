@@ -119,7 +119,8 @@ grown n l c rows none =
 
 -- ---- counts within their bounds have room
 pub few-none : Few no_rows
-few-none = every (λ tag. count no_rows tag ≤ (form tag).most) (omega arith) (λ place l. rw (none-none 0 place (omega arith) l) (omega arith))
+few-none =
+    every (λ tag. count no_rows tag ≤ (form tag).most) (omega arith) (λ place l. rw (none-none 0 place (omega arith) l) (omega arith))
 
 -- of a full day
 pub most-count : (place : ℕ) → place < many_tables → count most_counts (tag_at place) ≡ (form (tag_at place)).most

@@ -179,7 +179,8 @@ module _ {kinds : List Several} {file : List ℕ} {from cursor : Cursor} {lent b
         let beyond : numbers_of kinds + (i - numbers_of kinds) ≡ i = omega (arith, f) in
         let inside : i - numbers_of kinds < many = omega (arith, f, h) in
         let there : col (these ++ those) (numbers_of kinds + (i - numbers_of kinds)) ≡ col those (i - numbers_of kinds) =
-        ap (λ many. col (these ++ those) (many + (i - numbers_of kinds))) (sym long) ∙ get_or-append-add these those (i - numbers_of kinds) 0
+        ap (λ many. col (these ++ those) (many + (i - numbers_of kinds))) (sym long)
+        ∙ get_or-append-add these those (i - numbers_of kinds) 0
         in rw (← beyond)
         (rw (column-past kinds more (i - numbers_of kinds), column-first (many of column) [] (i - numbers_of kinds) inside, there)
         (within (i - numbers_of kinds) inside))

@@ -1,6 +1,5 @@
 use mathlib.Core.Path.{ap}
 use mathlib.Core.Bool.{not}
-use Prim.Native.Nat.{◌-◌}
 use Rattle.columns.proofs.Firsts.{searched_none, searched_more, stops, ends}
 use Rattle.dayrows.proofs.first_failing_row.Goals as goal
 

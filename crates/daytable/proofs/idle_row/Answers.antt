@@ -1,5 +1,4 @@
 use mathlib.Core.Path.{sym, ◌∙◌}
-use Prim.Native.Nat.{◌-◌}
 use Rattle.columns.proofs.Firsts.{searched_none, searched_more, stops, ends}
 use Rattle.daytable.proofs.idle_row.Goals as goal
 

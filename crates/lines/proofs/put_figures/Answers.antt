@@ -1,4 +1,3 @@
-use Prim.Native.Nat.{◌-◌}
 use native.Mathlib.Omega.{arith}
 use Rattle.lines.proofs.Lining.{lining_none, figures-none, figures-next, figures-last}
 use Rattle.lines.proofs.put_figures.Goals as goal

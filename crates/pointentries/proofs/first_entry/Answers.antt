@@ -1,5 +1,4 @@
 use mathlib.Core.Path.{sym, ◌∙◌}
-use Prim.Native.Nat.{◌-◌}
 use Rattle.columns.proofs.Firsts.{searched_none, searched_more, stops, ends}
 use Rattle.pointentries.proofs.first_entry.Goals as goal
 

@@ -1,5 +1,4 @@
 use mathlib.Core.Path.{refl}
-use Prim.Native.Nat.{◌-◌}
 use native.Mathlib.Omega.{arith}
 use Rattle.text.proofs.Laying.{word_none, word_next, word-all}
 use Rattle.text.proofs.put_bytes.Goals as goal

@@ -1,4 +1,3 @@
-use Prim.Native.Nat.{◌-◌}
 use native.Mathlib.Omega.{arith}
 use Rattle.lines.proofs.Texts.{texts_none, texts_more, texts_all, laid-long}
 use Rattle.chargelisting.proofs.chargestext.put_meters.Goals as goal

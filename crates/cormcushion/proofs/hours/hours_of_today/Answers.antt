@@ -1,5 +1,4 @@
 use mathlib.Core.Path.{refl}
-use Prim.Native.Nat.{◌-◌}
 use Rattle.daymeters.proofs.Writing.{writing_none, writing_next, written}
 use borrow.Author.Rules.{rules}
 use Rattle.cormcushion.proofs.hours.hours_of_today.Goals as goal

@@ -2,7 +2,7 @@ use mathlib.Core.Path.{ap}
 use native.Mathlib.Omega.{arith}
 use Rattle.dayformat.specs.Format.{form}
 use Rattle.dayformat.proofs.Small.{small, narrow}
-use Prim.Native.Nat.{◌-◌, ◌<◌}
+use Prim.Native.Nat.{◌<◌}
 use Rattle.dayfields.proofs.RowReading.{reads_none, reads_next, reads_all}
 use Rattle.dayfields.proofs.row.read_row.Goals as goal
 

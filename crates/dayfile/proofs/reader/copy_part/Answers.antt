@@ -1,5 +1,4 @@
 use mathlib.Core.Path.{refl}
-use Prim.Native.Nat.{◌-◌}
 use native.Mathlib.Omega.{arith}
 use Rattle.columns.proofs.Lists.{filling_none, filling_next, filling_all}
 use Rattle.dayfile.proofs.reader.copy_part.Goals as goal

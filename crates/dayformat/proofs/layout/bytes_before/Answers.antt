@@ -1,5 +1,4 @@
-use mathlib.Core.Path.{◌≡◌, ap, ◌∙◌}
-use Prim.Native.Nat.{◌+◌, ◌-◌, ◌*◌, ◌^◌, ◌<◌}
+use mathlib.Core.Path.{ap, ◌∙◌}
 use native.Mathlib.Nat.{le_antisymm}
 use native.Mathlib.Omega.{arith}
 use Rattle.columns.proofs.Sums.{sum-none, sum-next}
@@ -18,31 +17,26 @@ overflow_add-bytes c = omega (arith, ap (λ form. form.size) c.form_of.ensures, 
 
 pub overflow_mul-bytes : goal.overflow_mul-bytes
 overflow_mul-bytes c =
-    let few : c.count_of.result * (3 + c.form_of.result.size) < 2 ^ 41 =
-    rw c.form_of.ensures (fields-small c.tag_at-tag.result c.count_of.result (omega (arith, c.count_of.type_inv))) in
-    omega (arith, few)
+    rw c.form_of.ensures (omega (arith, fields-small c.tag_at-tag.result c.count_of.result c.count_of.type_inv))
 
 pub overflow_add-bytes-in-loop-place : goal.overflow_add-bytes-in-loop-place
 overflow_add-bytes-in-loop-place c =
-    let few : c.count_of.result * (3 + c.form_of.result.size) < 2 ^ 41 =
-    rw c.form_of.ensures (fields-small c.tag_at-tag.result c.count_of.result (omega (arith, c.count_of.type_inv))) in
-    omega (arith, few, c.loop-place.invariant.2, c.loop-place-test.true, c.requires)
+    rw c.form_of.ensures
+    (omega (
+      arith,
+      fields-small c.tag_at-tag.result c.count_of.result c.count_of.type_inv,
+      c.loop-place.invariant.2,
+      c.loop-place-test.true,
+      c.requires,
+    ))
 
 pub loop-place-preserved : goal.loop-place-preserved
 loop-place-preserved c =
-    let few : c.count_of.result * (3 + c.form_of.result.size) < 2 ^ 41 =
-    rw c.form_of.ensures (fields-small c.tag_at-tag.result c.count_of.result (omega (arith, c.count_of.type_inv))) in
-    let next : c.count_of.result * (3 + c.form_of.result.size) ≡ run_size c.args.counts (tag_at c.loop-place.place) =
-    rw (c.form_of.ensures, ← c.tag_at-tag.ensures, ← c.count_of.ensures) in
     let inv = c.loop-place.invariant in (
-      omega (
-        arith,
-        inv.0,
-        next,
-        sum-next c.loop-place.place (λ place. run_size c.args.counts (tag_at place)),
-      ),
+      rw (c.form_of.ensures, c.count_of.ensures, c.tag_at-tag.ensures)
+          (omega (arith, inv.0, sum-next c.loop-place.place (λ place. run_size c.args.counts (tag_at place)))),
       omega (arith, c.loop-place-test.true),
-      omega (arith, inv.2, few),
+      rw c.form_of.ensures (omega (arith, inv.2, fields-small c.tag_at-tag.result c.count_of.result c.count_of.type_inv)),
     )
 
 pub returns : goal.returns

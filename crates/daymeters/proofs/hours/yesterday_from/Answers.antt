@@ -1,4 +1,3 @@
-use Prim.Native.Nat.{◌-◌}
 use borrow.Author.Rules.{rules}
 use Rattle.daymeters.proofs.Writing.{writing_none, writing_next, written}
 use Rattle.daymeters.proofs.hours.yesterday_from.Goals as goal

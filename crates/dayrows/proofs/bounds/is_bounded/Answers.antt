@@ -1,5 +1,4 @@
 use mathlib.Core.Path.{ap, sym}
-use Prim.Native.Nat.{◌-◌}
 use native.Mathlib.Omega.{arith}
 use Rattle.columns.proofs.Firsts.{searched_none, searched_more}
 use Rattle.dayformat.specs.Format.{form}

@@ -10,7 +10,8 @@ use Rattle.dayrows.proofs.bounds.is_bounded.Given as goal
 
 abbrev pub invariant-loop-place : goal.invariant-loop-place
 invariant-loop-place l =
-    (l.columns ≡ (form l.tag).columns) × Searched (λ i. not (in_bounds (column_in (body l.tag) i) (col l.numbers (l.at + i)))) l.columns l.place
+    (l.columns ≡ (form l.tag).columns)
+    × Searched (λ i. not (in_bounds (column_in (body l.tag) i) (col l.numbers (l.at + i)))) l.columns l.place
 
 abbrev pub decreases-loop-place : goal.decreases-loop-place
 decreases-loop-place l = l.columns - l.place

@@ -1,5 +1,5 @@
 -- Two keys are the same exactly where they don't differ within the key.
-use mathlib.Core.Path.{◌≡◌, ap}
+use mathlib.Core.Path.{ap}
 use native.Mathlib.Omega.{arith}
 use lib.ListN.{get_or}
 use borrow.Author.Tests.{le-leb, lt-leb}
@@ -12,14 +12,10 @@ use Rattle.dayrows.proofs.caps.caps.Goals as goal
 
 pub overflow_add-at : goal.overflow_add-at
 overflow_add-at c =
-    let first : get_or c.names_of-names.result 0 (0 is_a Head) ≡ first_name c.args.tag =
-    first_of c.args.tag c.names_of-names.ensures (0 is_a Head) in
-    omega (arith, (cap-inside c.args.tag).name, ap (λ name. name.place) first, c.requires)
+    rw (first_of c.args.tag c.names_of-names.ensures (0 is_a Head)) (omega (arith, (cap-inside c.args.tag).name, c.requires))
 
 pub first_difference-requires : goal.first_difference-requires
 first_difference-requires c =
-    let first : get_or c.names_of-names.result 0 (0 is_a Head) ≡ first_name c.args.tag =
-    first_of c.args.tag c.names_of-names.ensures (0 is_a Head) in
     let short = small (get_or c.names_of-names.result 0 (0 is_a Head)).tag in
     omega (
       arith,
@@ -28,17 +24,15 @@ first_difference-requires c =
       short.columns,
       c.row_place-start.ensures.1,
       (cap-inside c.args.tag).name,
-      ap (λ name. name.place) first,
+      ap (λ name. name.place) (first_of c.args.tag c.names_of-names.ensures (0 is_a Head)),
       c.requires,
     )
 
 pub returns-then-first_difference-key : goal.returns-then-first_difference-key
 unfolding caps
 returns-then-first_difference-key c =
-    let first : get_or c.names_of-names.result 0 (0 is_a Head) ≡ first_name c.args.tag =
-    first_of c.args.tag c.names_of-names.ensures (0 is_a Head) in
     rw (
-      ← first,
+      ← first_of c.args.tag c.names_of-names.ensures (0 is_a Head),
       ← ap (λ form. form.key) c.form_of-key.ensures,
       ← c.row_place-start.ensures.0,
       ← c.first_difference.ensures.0,
@@ -80,10 +74,8 @@ all_under-requires c =
 pub returns : goal.returns
 unfolding caps
 returns c =
-    let first : get_or c.names_of-names.result 0 (0 is_a Head) ≡ first_name c.args.tag =
-    first_of c.args.tag c.names_of-names.ensures (0 is_a Head) in
     rw (
-      ← first,
+      ← first_of c.args.tag c.names_of-names.ensures (0 is_a Head),
       ← ap (λ form. form.key) c.form_of-key.ensures,
       ← c.row_place-start.ensures.0,
       ← c.first_difference.ensures.0,

@@ -1,5 +1,4 @@
 use mathlib.Core.Path.{ap, sym}
-use Prim.Native.Nat.{◌-◌}
 use native.Mathlib.Omega.{arith}
 use borrow.Author.Tests.{le-leb, lt-leb}
 use Rattle.columns.proofs.Firsts.{searched_none, searched_more}

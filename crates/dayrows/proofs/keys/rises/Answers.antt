@@ -1,31 +1,32 @@
 -- The first row's key rises; a later one is compared where it first differs from the key before it.
-use mathlib.Core.Path.{ap, sym}
+use mathlib.Core.Path.{◌≡◌, ap, sym}
 use Prim.Native.Nat.{◌≤◌}
 use native.Mathlib.Omega.{arith}
+use Rattle.dayformat.specs.declared.form.Form.{Form}
+use Rattle.dayformat.specs.declared.form.Tag.{Tag}
+use Rattle.dayformat.specs.Format.{form}
 use Rattle.dayformat.proofs.Small.{small}
 use Rattle.dayrows.proofs.Rising.{rises-first, rises_by, stays}
 use Rattle.dayrows.proofs.keys.rises.Goals as goal
+
+-- a key is short
+short : (tag : Tag) {made : Form} → made ≡ form tag → made.key ≤ 68
+short tag is = rw is (omega (arith, (small tag).key, (small tag).columns))
 
 pub returns-then-row-eq0 : goal.returns-then-row-eq0
 returns-then-row-eq0 c = sym (rises-first _ _ _ _ c.if-row-eq0.true)
 
 pub first_difference-place-requires : goal.first_difference-place-requires
 first_difference-place-requires c =
-    let short : c.form_of-key.result.key ≤ 68 =
-    let body = small c.args.tag in rw c.form_of-key.ensures (omega (arith, body.key, body.columns)) in
-    omega (arith, short, c.row_place-before.ensures.1, c.row_place-here.ensures.1)
+    omega (arith, short c.args.tag c.form_of-key.ensures, c.row_place-before.ensures.1, c.row_place-here.ensures.1)
 
 pub overflow_add-before : goal.overflow_add-before
 overflow_add-before c =
-    let short : c.form_of-key.result.key ≤ 68 =
-    let body = small c.args.tag in rw c.form_of-key.ensures (omega (arith, body.key, body.columns)) in
-    omega (arith, short, c.row_place-before.ensures.1)
+    omega (arith, short c.args.tag c.form_of-key.ensures, c.row_place-before.ensures.1)
 
 pub overflow_add-here : goal.overflow_add-here
 overflow_add-here c =
-    let short : c.form_of-key.result.key ≤ 68 =
-    let body = small c.args.tag in rw c.form_of-key.ensures (omega (arith, body.key, body.columns)) in
-    omega (arith, short, c.row_place-here.ensures.1)
+    omega (arith, short c.args.tag c.form_of-key.ensures, c.row_place-here.ensures.1)
 
 pub returns-then-place-key : goal.returns-then-place-key
 returns-then-place-key c =

@@ -1,6 +1,5 @@
 use mathlib.Core.Path.{sym, ◌∙◌}
 use mathlib.Core.Bool.{true≢false}
-use Prim.Native.Nat.{◌-◌}
 use borrow.Author.Tests.{le-ltb}
 use Rattle.columns.proofs.Firsts.{searched_none, searched_more}
 use Rattle.dayrows.specs.Test.{all_under}

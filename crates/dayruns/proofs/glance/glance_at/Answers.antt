@@ -1,8 +1,7 @@
 -- Where rows stand in a file, an entry is glanced at in its own way, and any other row by its names.
-use mathlib.Core.Path.{◌≡◌, ap, sym, ◌∙◌}
+use mathlib.Core.Path.{ap, sym, ◌∙◌}
 use Rattle.dayformat.specs.declared.form.Tag.TheVariants.{Entry}
 use Rattle.dayformat.proofs.Every.{byte_tells}
-use Rattle.dayrows.specs.declared.Source.TheVariants.{File}
 use Rattle.dayruns.proofs.Glancing.{unseen}
 use Rattle.dayruns.proofs.RowReading.{placed_as}
 use Rattle.dayruns.proofs.glance.glance_at.Goals as goal
@@ -12,18 +11,16 @@ returns-then-not-is_file c = unseen _ _ _ _ _ _ _
 
 pub glance_at_entry-requires : goal.glance_at_entry-requires
 glance_at_entry-requires c =
-    let is_entry : c.args.tag ≡ Entry =
-    byte_tells _ _ (sym (ap (λ form. form.byte) c.form_of.ensures) ∙ c.if-form_of-eq-ENTRY_BYTE.true) in
-    placed_as c.args.counts c.args.row c.args.to is_entry c.requires
+    placed_as c.args.counts c.args.row c.args.to
+    (byte_tells c.args.tag Entry (sym (ap (λ form. form.byte) c.form_of.ensures) ∙ c.if-form_of-eq-ENTRY_BYTE.true)) c.requires
 
 pub returns-then-form_of-eq-ENTRY_BYTE : goal.returns-then-form_of-eq-ENTRY_BYTE
 returns-then-form_of-eq-ENTRY_BYTE c =
-    let in-file : c.args.source ≡ File = let asked = c.is_file in asked.ensures c.if-not-is_file.false in
-    let is_entry : c.args.tag ≡ Entry =
-    byte_tells _ _ (sym (ap (λ form. form.byte) c.form_of.ensures) ∙ c.if-form_of-eq-ENTRY_BYTE.true) in
-    rw (is_entry, in-file) c.glance_at_entry.ensures
+    rw (
+      byte_tells c.args.tag Entry (sym (ap (λ form. form.byte) c.form_of.ensures) ∙ c.if-form_of-eq-ENTRY_BYTE.true),
+      c.is_file.ensures c.if-not-is_file.false,
+    )
+    c.glance_at_entry.ensures
 
 pub returns : goal.returns
-returns c =
-    let in-file : c.args.source ≡ File = let asked = c.is_file in asked.ensures c.if-not-is_file.false in
-    rw in-file c.glance_at_row.ensures
+returns c = rw (c.is_file.ensures c.if-not-is_file.false) c.glance_at_row.ensures

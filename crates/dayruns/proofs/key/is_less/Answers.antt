@@ -1,4 +1,3 @@
-use Prim.Native.Nat.{◌-◌}
 use borrow.Author.Tests.{eq-eqb, ne_eqb}
 use Rattle.columns.specs.Column.{col}
 use Rattle.columns.proofs.Firsts.{searched_none, searched_more, stops, ends}

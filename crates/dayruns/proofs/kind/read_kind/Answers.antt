@@ -1,8 +1,6 @@
 use mathlib.Core.Path.{refl, sym, ◌∙◌}
 use mathlib.Core.Bool.{true≢false}
-use Prim.Native.Nat.{◌+◌, ◌-◌, ◌*◌, ◌≤◌}
 use native.Mathlib.Omega.{arith}
-use lib.ListN.{length}
 use Rattle.dayruns.proofs.KindReading.{number-there, reading-none, reading-next, reading-all}
 use Rattle.dayruns.proofs.kind.read_kind.Goals as goal
 use Rattle.dayruns.proofs.kind.read_kind.Goals.{then-column-number, else-column-number, then-number-column, else-number-column}
@@ -11,28 +9,16 @@ pub loop-place-init : goal.loop-place-init
 loop-place-init c = reading-none _ _ _ _ _
 
 pub overflow_mul-byte : goal.overflow_mul-byte
-overflow_mul-byte c =
-    let there : c.args.from.byte + c.loop-place.place * c.args.column.width + c.args.column.width ≤ length c.args.file.now =
-    number-there c.args.from.byte c.args.many c.args.column.width c.loop-place.place c.loop-place-test.true c.requires.1 in
-    omega (arith, there)
+overflow_mul-byte c = omega (arith, number-there _ _ _ c.loop-place.place c.loop-place-test.true c.requires.1)
 
 pub overflow_add-byte : goal.overflow_add-byte
-overflow_add-byte c =
-    let there : c.args.from.byte + c.loop-place.place * c.args.column.width + c.args.column.width ≤ length c.args.file.now =
-    number-there c.args.from.byte c.args.many c.args.column.width c.loop-place.place c.loop-place-test.true c.requires.1 in
-    omega (arith, there)
+overflow_add-byte c = omega (arith, number-there _ _ _ c.loop-place.place c.loop-place-test.true c.requires.1)
 
 pub overflow_add-byte-in-loop-place : goal.overflow_add-byte-in-loop-place
-overflow_add-byte-in-loop-place c =
-    let there : c.args.from.byte + c.loop-place.place * c.args.column.width + c.args.column.width ≤ length c.args.file.now =
-    number-there c.args.from.byte c.args.many c.args.column.width c.loop-place.place c.loop-place-test.true c.requires.1 in
-    omega (arith, there)
+overflow_add-byte-in-loop-place c = omega (arith, number-there _ _ _ c.loop-place.place c.loop-place-test.true c.requires.1)
 
 pub slice_bounds-number_at-end : goal.slice_bounds-number_at-end
-slice_bounds-number_at-end c =
-    let there : c.args.from.byte + c.loop-place.place * c.args.column.width + c.args.column.width ≤ length c.args.file.now =
-    number-there c.args.from.byte c.args.many c.args.column.width c.loop-place.place c.loop-place-test.true c.requires.1 in
-    omega (arith, there)
+slice_bounds-number_at-end c = omega (arith, number-there _ _ _ c.loop-place.place c.loop-place-test.true c.requires.1)
 
 pub loop-place-preserved : goal.loop-place-preserved
 loop-place-preserved c =

@@ -1,6 +1,4 @@
-use Prim.Native.Nat.{◌-◌, ◌*◌, ◌^◌, ◌<◌, ◌≤◌}
 use native.Mathlib.Omega.{arith}
-use Rattle.dayformat.proofs.Small.{rows-small}
 use Rattle.dayruns.proofs.Finding.{row_inside, row-keyed}
 use Rattle.dayruns.proofs.names.row_keyed_from.Goals as goal
 
@@ -9,27 +7,22 @@ loop-row-init c = tt
 
 pub overflow_mul-row : goal.overflow_mul-row
 overflow_mul-row c =
-    let few : c.loop-row.row * c.form_of-form.result.columns ≤ 68 * 2 ^ 32 =
-    let row : c.loop-row.row < 2 ^ 32 = omega (arith, c.loop-row-test.true, c.count_of-rows.type_inv) in rw c.form_of-form.ensures (rows-small c.args.tag c.loop-row.row row) in
-    omega (arith, few)
+    let l = rw c.count_of-rows.ensures at c.loop-row-test.true in
+    omega (arith, row_inside _ _ _ _ c.loop-row.row c.form_of-form.ensures c.row_place-start.ensures.0 l c.requires)
 
 pub overflow_add-start : goal.overflow_add-start
 overflow_add-start c =
-    let few : c.loop-row.row * c.form_of-form.result.columns ≤ 68 * 2 ^ 32 =
-    let row : c.loop-row.row < 2 ^ 32 = omega (arith, c.loop-row-test.true, c.count_of-rows.type_inv) in rw c.form_of-form.ensures (rows-small c.args.tag c.loop-row.row row) in
-    omega (arith, few, c.row_place-start.ensures.1)
+    let l = rw c.count_of-rows.ensures at c.loop-row-test.true in
+    omega (arith, row_inside _ _ _ _ c.loop-row.row c.form_of-form.ensures c.row_place-start.ensures.0 l c.requires)
 
 pub is_same-requires : goal.is_same-requires
 is_same-requires c =
-    row_inside c.args.counts c.args.tag c.args.numbers.now c.args.at c.loop-row.row
-    c.form_of-form.ensures
-    c.row_place-start.ensures.0 (rw c.count_of-rows.ensures at c.loop-row-test.true) c.requires
+    let l = rw c.count_of-rows.ensures at c.loop-row-test.true in
+    row_inside _ _ _ _ c.loop-row.row c.form_of-form.ensures c.row_place-start.ensures.0 l c.requires
 
 pub returns-then-is_same : goal.returns-then-is_same
 returns-then-is_same c = λ l.
-    row-keyed c.args.counts c.args.tag c.args.numbers.now c.args.at c.loop-row.row
-    c.form_of-form.ensures
-    c.row_place-start.ensures.0 l (c.is_same.ensures c.if-is_same.true)
+    row-keyed _ _ _ _ c.loop-row.row c.form_of-form.ensures c.row_place-start.ensures.0 l (c.is_same.ensures c.if-is_same.true)
 
 pub loop-row-preserved : goal.loop-row-preserved
 loop-row-preserved c = tt

@@ -1,4 +1,3 @@
-use Prim.Native.Nat.{◌-◌}
 use borrow.Author.Tests.{lt-ltb, le-ltb}
 use Rattle.columns.proofs.Firsts.{searched_none, searched_more, stops, ends}
 use Rattle.dayshares.proofs.class.short_row.Goals as goal

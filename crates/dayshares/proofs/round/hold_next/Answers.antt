@@ -1,90 +1,47 @@
 -- The needs made are what is unmet, and adding the shares is the step of the chain.
-use lib.ListN.{replicate}
+use mathlib.Core.Path.{◌≡◌}
+use mathlib.Core.List.{List}
+use Prim.Native.Nat.{ℕ}
+use lib.ListN.{length, take, replicate}
+use lib.Seq.{sets}
+use Rattle.columns.specs.Column.{col, listed}
+use Rattle.sharing.specs.Chain.{unmet}
+use Rattle.rounds.specs.declared.Given.{Given}
+use Rattle.dayshares.specs.Private.{Held, NextReady}
 use Rattle.dayshares.proofs.Furthering.{Needed, needs-long, next-ready, Further, more-long, adds, next-held}
 use Rattle.dayshares.proofs.round.hold_next.Goals as goal
 
+-- the stages: the needs made in a list of zeros, and the round held in another
+module _ {capacity : ℕ} {ws qs had made : List ℕ} (r : NextReady capacity ws qs had)
+    (m : made ≡ sets (replicate 64 0) 0 (listed (length qs) (unmet (col qs) (col had)))) where
+  abbrev needed : Needed
+  needed = record {
+    c = capacity;
+    ws = ws;
+    qs = qs;
+    had = had;
+    ready = r;
+    lent = replicate 64 0;
+    made = made;
+    room = r.rows.few;
+    is = m;
+  }
+
+  abbrev further : {given : Given} {shared : List ℕ}
+      → Held capacity ws (take (length ws) made) (replicate 64 0) given shared → Further
+  further h = record { needed = needed; lent = replicate 64 0; room = r.rows.few; given = _; shared = _; held = h }
+
 pub slice_bounds-hold-end : goal.slice_bounds-hold-end
-slice_bounds-hold-end c =
-    let needed : Needed =
-    record {
-      c = c.args.capacity;
-      ws = c.args.weights.now;
-      qs = c.args.schedule.now;
-      had = c.args.given.now;
-      ready = c.requires;
-      lent = replicate 64 0;
-      made = _;
-      room = c.requires.rows.few;
-      is = c.rest_list.ensures;
-    } in
-    needs-long needed
+slice_bounds-hold-end c = needs-long (needed c.requires c.rest_list.ensures)
 
 pub hold-round-requires : goal.hold-round-requires
-hold-round-requires c =
-    let needed : Needed =
-    record {
-      c = c.args.capacity;
-      ws = c.args.weights.now;
-      qs = c.args.schedule.now;
-      had = c.args.given.now;
-      ready = c.requires;
-      lent = replicate 64 0;
-      made = _;
-      room = c.requires.rows.few;
-      is = c.rest_list.ensures;
-    } in
-    let n = needed in next-ready n 64 n.ready.rows.few
+hold-round-requires c = next-ready (needed c.requires c.rest_list.ensures) 64 c.requires.rows.few
 
 pub slice_bounds-add_list-end : goal.slice_bounds-add_list-end
-slice_bounds-add_list-end c =
-    let needed : Needed =
-    record {
-      c = c.args.capacity;
-      ws = c.args.weights.now;
-      qs = c.args.schedule.now;
-      had = c.args.given.now;
-      ready = c.requires;
-      lent = replicate 64 0;
-      made = _;
-      room = c.requires.rows.few;
-      is = c.rest_list.ensures;
-    } in
-    let further : Further =
-    let n = needed in record { needed = n; lent = replicate 64 0; room = n.ready.rows.few; given = _; shared = _; held = c.hold-round.ensures } in
-    more-long further
+slice_bounds-add_list-end c = more-long (further c.requires c.rest_list.ensures c.hold-round.ensures)
 
 pub add_list-requires : goal.add_list-requires
-add_list-requires c =
-    let needed : Needed =
-    record {
-      c = c.args.capacity;
-      ws = c.args.weights.now;
-      qs = c.args.schedule.now;
-      had = c.args.given.now;
-      ready = c.requires;
-      lent = replicate 64 0;
-      made = _;
-      room = c.requires.rows.few;
-      is = c.rest_list.ensures;
-    } in
-    let further : Further =
-    let n = needed in record { needed = n; lent = replicate 64 0; room = n.ready.rows.few; given = _; shared = _; held = c.hold-round.ensures } in
-    adds further
+add_list-requires c = adds (further c.requires c.rest_list.ensures c.hold-round.ensures)
 
 pub returns : goal.returns
-returns c =
-    let needed : Needed =
-    record {
-      c = c.args.capacity;
-      ws = c.args.weights.now;
-      qs = c.args.schedule.now;
-      had = c.args.given.now;
-      ready = c.requires;
-      lent = replicate 64 0;
-      made = _;
-      room = c.requires.rows.few;
-      is = c.rest_list.ensures;
-    } in
-    let further : Further =
-    let n = needed in record { needed = n; lent = replicate 64 0; room = n.ready.rows.few; given = _; shared = _; held = c.hold-round.ensures } in
-    next-held further _ c.add_list.ensures
+returns c = next-held (further c.requires c.rest_list.ensures c.hold-round.ensures) _ c.add_list.ensures

@@ -1,4 +1,3 @@
-use Prim.Native.Nat.{◌-◌}
 use native.Mathlib.Omega.{arith}
 use Rattle.columns.proofs.Lists.{filling_none, filling_next, filling_all}
 use Rattle.dayvalues.specs.Row.{number_at}

@@ -1,5 +1,4 @@
 use mathlib.Core.Path.{sym, ◌∙◌}
-use Prim.Native.Nat.{◌-◌}
 use borrow.Author.Tests.{eq-eqb, ne_eqb}
 use Rattle.columns.proofs.Firsts.{searched_none, searched_more, stops, ends}
 use Rattle.dayvalues.specs.Row.{number_at}

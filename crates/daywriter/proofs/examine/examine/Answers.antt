@@ -11,14 +11,18 @@ use Rattle.daywriter.proofs.examine.examine.Goals as goal
 
 pub returns-in-Refused : goal.returns-in-Refused
 returns-in-Refused c =
-    let first : c.then-singles.result ≡ (Check.Accepted then keep (eqb (length c.args.numbers.now) (numbers_in c.args.day.counts)) 9 then singles_check c.args.day) =
+    let first :
+    c.then-singles.result
+    ≡ (Check.Accepted then keep (eqb (length c.args.numbers.now) (numbers_in c.args.day.counts)) 9 then singles_check c.args.day) =
     rw (c.then-singles.ensures, c.examine_singles.ensures, c.keep.ensures, c.numbers_of.ensures.0) in
     let args = c.args in
     singles_refuse args.day args.numbers.now first c.in-Refused.is
 
 pub returns-in-Accepted : goal.returns-in-Accepted
 returns-in-Accepted c =
-    let first : c.then-singles.result ≡ (Check.Accepted then keep (eqb (length c.args.numbers.now) (numbers_in c.args.day.counts)) 9 then singles_check c.args.day) =
+    let first :
+    c.then-singles.result
+    ≡ (Check.Accepted then keep (eqb (length c.args.numbers.now) (numbers_in c.args.day.counts)) 9 then singles_check c.args.day) =
     rw (c.then-singles.ensures, c.examine_singles.ensures, c.keep.ensures, c.numbers_of.ensures.0) in
     let args = c.args in
     rows_decide args.day args.numbers.now first c.in-Accepted.is c.examine_rows.ensures

@@ -1,4 +1,3 @@
-use Prim.Native.Nat.{◌-◌}
 use Rattle.units.proofs.Testing.{testing_none, testing_next, testing_all}
 use Rattle.daywriter.specs.Acceptance.{tables_check}
 use Rattle.daywriter.proofs.examine.examine_tables.Goals as goal

@@ -10,7 +10,8 @@ use Rattle.daywriter.proofs.examine.examine_tables.Given as goal
 
 abbrev pub invariant-loop-place : goal.invariant-loop-place
 invariant-loop-place l =
-    Testing many_tables (λ place. clear (count l.counts (tag_at place)) (first_failing l.test l.counts (col l.numbers) (tag_at place)) l.number) l.place
+    Testing many_tables
+    (λ place. clear (count l.counts (tag_at place)) (first_failing l.test l.counts (col l.numbers) (tag_at place)) l.number) l.place
     l.found
 
 abbrev pub decreases-loop-place : goal.decreases-loop-place

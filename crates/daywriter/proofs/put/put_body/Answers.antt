@@ -1,8 +1,6 @@
 use mathlib.Core.Path.{ap}
-use Prim.Native.Nat.{◌-◌, ◌<◌}
 use native.Mathlib.Omega.{arith}
 use Rattle.columns.specs.Column.{col}
-use Rattle.dayformat.specs.Format.{form}
 use Rattle.dayformat.proofs.Small.{small, narrow}
 use Rattle.daywriter.proofs.RowLaying.{lays-none, lays-next, lays_all}
 use Rattle.daywriter.proofs.put.put_body.Goals as goal
@@ -14,19 +12,15 @@ loop-place-init c =
 
 pub overflow_add-from : goal.overflow_add-from
 overflow_add-from c =
-    let inside : c.loop-place.place < (form c.args.tag).columns =
-    omega (arith, c.loop-place-test.true, ap (λ form. form.columns) c.form_of-columns.ensures) in
-    omega (arith, c.requires.0, inside, (small c.args.tag).columns)
+    omega (arith, c.requires.0, rw c.form_of-columns.ensures at c.loop-place-test.true, (small c.args.tag).columns)
 
 pub overflow_add-byte : goal.overflow_add-byte
 overflow_add-byte c =
-    let inside : c.loop-place.place < (form c.args.tag).columns =
-    omega (arith, c.loop-place-test.true, ap (λ form. form.columns) c.form_of-columns.ensures) in
     omega (
       arith,
       c.requires.1,
       c.loop-place.invariant.2,
-      inside,
+      rw c.form_of-columns.ensures at c.loop-place-test.true,
       (small c.args.tag).columns,
       narrow c.args.tag c.loop-place.place,
       ap (λ c. c.width) c.column_at-width.ensures,
@@ -34,11 +28,10 @@ overflow_add-byte c =
 
 pub loop-place-preserved : goal.loop-place-preserved
 loop-place-preserved c =
-    let inside : c.loop-place.place < (form c.args.tag).columns =
-    omega (arith, c.loop-place-test.true, ap (λ form. form.columns) c.form_of-columns.ensures) in
     let args = c.args in (
       lays-next (col args.numbers.now) args.tag args.from args.block.now args.at c.loop-place.place c.loop-place.byte
-          c.loop-place.invariant.0 inside c.column_at-width.ensures c.number_of-number.ensures c.put_number.ensures,
+          c.loop-place.invariant.0 (rw c.form_of-columns.ensures at c.loop-place-test.true) c.column_at-width.ensures
+          c.number_of-number.ensures c.put_number.ensures,
       omega (arith, c.loop-place-test.true),
       omega (arith, c.loop-place.invariant.2, narrow args.tag c.loop-place.place, ap (λ c. c.width) c.column_at-width.ensures),
     )
@@ -50,5 +43,4 @@ pub returns : goal.returns
 returns c =
     let args = c.args in
     lays_all (col args.numbers.now) args.tag args.from args.block.now args.at c.loop-place.place c.loop-place.byte
-    c.loop-place.invariant.0
-    (omega (arith, c.loop-place-test.false, ap (λ form. form.columns) c.form_of-columns.ensures))
+    c.loop-place.invariant.0 (rw c.form_of-columns.ensures at c.loop-place-test.false)

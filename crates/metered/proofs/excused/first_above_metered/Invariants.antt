@@ -9,7 +9,8 @@ use Rattle.metered.proofs.excused.first_above_metered.Given as goal
 
 abbrev pub invariant-loop-hour : goal.invariant-loop-hour
 invariant-loop-hour l =
-    Searched (λ i. ltb (col l.metered i) (col l.excused i)) (both_have l.metered l.excused) l.hour × (l.hours ≡ both_have l.metered l.excused)
+    Searched (λ i. ltb (col l.metered i) (col l.excused i)) (both_have l.metered l.excused) l.hour
+    × (l.hours ≡ both_have l.metered l.excused)
 
 abbrev pub decreases-loop-hour : goal.decreases-loop-hour
 decreases-loop-hour l = l.hours - l.hour

@@ -1,5 +1,4 @@
 use mathlib.Core.Path.{ap, ◌∙◌}
-use Prim.Native.Nat.{◌-◌}
 use native.Mathlib.Omega.{arith}
 use Rattle.columns.proofs.Lists.{filling_none, filling_next, filling_all}
 use Rattle.pointhours.specs.Parts.{entitlement_in}

@@ -7,7 +7,8 @@ use Rattle.pointlisting.proofs.list.put_each.Given as goal
 
 abbrev pub invariant-loop-row : goal.invariant-loop-row
 invariant-loop-row l =
-    (l.row ≤ l.rows) × (l.size ≤ 2 ^ 21 * l.row) × Laid (joined l.row (point_lines l.day.counts (col l.numbers))) l.initial.text l.at l.size l.text
+    (l.row ≤ l.rows) × (l.size ≤ 2 ^ 21 * l.row)
+    × Laid (joined l.row (point_lines l.day.counts (col l.numbers))) l.initial.text l.at l.size l.text
 
 abbrev pub decreases-loop-row : goal.decreases-loop-row
 decreases-loop-row l = l.rows - l.row

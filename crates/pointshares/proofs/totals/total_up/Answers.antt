@@ -1,5 +1,4 @@
 use mathlib.Core.Path.{refl}
-use Prim.Native.Nat.{◌-◌}
 use native.Mathlib.Omega.{arith}
 use Rattle.columns.proofs.Sums.{adding_none, adding_next, adding_all, adding_bound}
 use Rattle.units.specs.Bound.{most_hour, most_gigajoules}

@@ -1,4 +1,3 @@
-use Prim.Native.Nat.{◌-◌}
 use native.Mathlib.Omega.{arith}
 use Rattle.rounds.proofs.Searches.{bracket_start, bracket_up, bracket_down, bracket_level}
 use Rattle.rounds.proofs.level.search.Goals as goal

@@ -1,4 +1,3 @@
-use Prim.Native.Nat.{◌-◌}
 use native.Mathlib.Omega.{arith}
 use Rattle.columns.proofs.Sums.{adding_none, adding_next, adding_bound, adding_all}
 use Rattle.rounds.proofs.pass.pass_at.Goals as goal

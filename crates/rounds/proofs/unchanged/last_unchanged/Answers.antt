@@ -1,4 +1,3 @@
-use Prim.Native.Nat.{◌-◌}
 use native.Mathlib.Omega.{arith}
 use Rattle.rounds.proofs.Unchanging.{lasting_none, lasting_next, lasting_all}
 use Rattle.rounds.proofs.unchanged.last_unchanged.Goals as goal

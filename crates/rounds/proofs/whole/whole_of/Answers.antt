@@ -1,4 +1,3 @@
-use Prim.Native.Nat.{◌-◌}
 use native.Mathlib.Omega.{arith}
 use Rattle.columns.proofs.Sums.{adding_none, adding_next, adding_bound, adding_all}
 use Rattle.rounds.proofs.whole.whole_of.Goals as goal

@@ -9,7 +9,8 @@ use Rattle.sharelisting.proofs.sharestext.put_shippers.Given as goal
 abbrev pub invariant-loop-row : goal.invariant-loop-row
 invariant-loop-row l =
     (l.row ≤ l.rows) × (l.size ≤ 2048 * l.row)
-    × Laid (shipper_lines l.row (shipper_of l.counts (col l.numbers)) (col l.firm) (col l.auction) (col l.lower_tier)) l.initial.text l.at l.size l.text
+    × Laid (shipper_lines l.row (shipper_of l.counts (col l.numbers)) (col l.firm) (col l.auction) (col l.lower_tier))
+    l.initial.text l.at l.size l.text
 
 abbrev pub decreases-loop-row : goal.decreases-loop-row
 decreases-loop-row l = l.rows - l.row

@@ -1,5 +1,4 @@
 use mathlib.Core.Path.{sym, ◌∙◌}
-use Prim.Native.Nat.{◌-◌}
 use Rattle.columns.proofs.Sums.{adding_none, adding_next, adding_all}
 use Rattle.usegas.proofs.Scheduling.{row-scheduled, nothing_to_share, some-scheduled, none-scheduled}
 use Rattle.usegas.proofs.weight.is_unscheduled.Goals as goal

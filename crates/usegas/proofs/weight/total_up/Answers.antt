@@ -1,4 +1,3 @@
-use Prim.Native.Nat.{◌-◌}
 use native.Mathlib.Omega.{arith}
 use Rattle.columns.proofs.Sums.{adding_none, adding_next, adding_all, adding_bound}
 use Rattle.units.specs.Bound.{most_gigajoules}

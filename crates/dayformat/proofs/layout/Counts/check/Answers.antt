@@ -1,5 +1,4 @@
 use mathlib.Core.Path.{ap}
-use Prim.Native.Nat.{◌-◌}
 use Rattle.units.proofs.Testing.{testing_none, testing_next, testing_all}
 use Rattle.dayformat.specs.Format.{most}
 use Rattle.dayformat.specs.Acceptance.{counts_check}
