@@ -9,7 +9,6 @@ use lib.ListN.{length}
 use lib.Seq.{sets}
 use Rattle.units.specs.declared.refusal.Refusal.{Refusal}
 use Rattle.units.specs.declared.refusal.Check.{Check}
-use Rattle.units.specs.declared.refusal.Check.TheVariants as Check
 use Rattle.units.specs.declared.refusal.Check.TheVariants.{Accepted}
 use Rattle.units.specs.Refusals.{plain, ◌then◌, keep}
 use Rattle.text.specs.Text.{Laid}

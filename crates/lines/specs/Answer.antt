@@ -2,7 +2,6 @@
 use Rattle.std.specs.Prelude.{◌≡◌, List, ℕ, leb, length}
 use Rattle.std.proofs.lemmas.List.Edits.{sets}
 use Rattle.units.specs.declared.refusal.Check.{Check}
-use Rattle.units.specs.declared.refusal.Check.TheVariants as Check
 use Rattle.units.specs.Refusals.{accepted_or, ◌then◌, keep}
 use Rattle.units.specs.Verdict.{Verdict, accepting, refusing}
 use Rattle.lines.specs.declared.Listing.{Listing}
