@@ -1,5 +1,6 @@
 -- On a sound day a meter's shipper has no more excused than was metered in any hour: the one meter that its row of excused gas names caps
 -- it. So the overruns accept what is excused.
+use Rattle.std.specs.Prelude.{Ok}
 use mathlib.Core.Path.{◌≡◌, refl, ap, sym, ◌∙◌}
 use mathlib.Core.List.{List}
 use Prim.Native.Nat.{ℕ, ◌+◌, ◌-◌, ◌≤◌, ◌<◌}
@@ -10,7 +11,6 @@ use lib.ListN.{get_or-eq_default}
 use Rattle.columns.specs.Column.{col}
 use Rattle.columns.proofs.Firsts.{first-marked}
 use Rattle.columns.proofs.Lists.{length-listed, col-listed}
-use Rattle.units.specs.declared.refusal.Check.{Check}
 use Rattle.metered.specs.Hours.{bare_hours}
 use Rattle.dayformat.specs.declared.day.Day.{Day}
 use Rattle.dayformat.specs.declared.form.Tag.TheVariants.{Meter, Excused}
@@ -73,7 +73,7 @@ module _ (day : Day) (numbers : List ℕ) (S : Sound day numbers) (row : ℕ) (l
   D = shipper_day day.counts numbers row
 
   found-accepts : Dec (found < count day.counts Excused) →
-      excused_day_check D (excused_in_row day.counts numbers found) ≡ Check.Accepted
+      excused_day_check D (excused_in_row day.counts numbers found) ≡ Ok tt
   found-accepts (yes k) =
       let had = row-accepts day numbers S Excused refl found k in
       let metered = meter-accepts day numbers S row l in
@@ -86,5 +86,5 @@ module _ (day : Day) (numbers : List ℕ) (S : Sound day numbers) (row : ℕ) (l
       ∙ check-nothing D
       ∙ overruns_accept day numbers S row l
 
-  pub excused_accept : excused_day_check D (shipper_excused day.counts numbers row) ≡ Check.Accepted
+  pub excused_accept : excused_day_check D (shipper_excused day.counts numbers row) ≡ Ok tt
   excused_accept = rw (figures-had day numbers S row l) (rw (figures-had day numbers S row l) at (found-accepts (dec_lt _ _)))

@@ -1,4 +1,3 @@
-pub mod Charging
 pub mod Decided
 pub mod HeadLine
 pub mod Rated

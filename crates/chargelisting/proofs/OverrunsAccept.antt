@@ -1,4 +1,5 @@
 -- What the reader accepts, a shipper's overruns accept.
+use Rattle.std.specs.Prelude.{Ok}
 use mathlib.Core.Path.{◌≡◌, refl, ap}
 use mathlib.Core.List.{List, [], ◌∷◌}
 use Prim.Native.Nat.{ℕ, ◌+◌, ◌≤◌, ◌<◌}
@@ -7,7 +8,6 @@ use borrow.Author.Tests.{le-leb}
 use lib.Dec.{leb}
 use Rattle.columns.specs.Column.{col, listed}
 use Rattle.columns.proofs.Lists.{length-listed, col-listed}
-use Rattle.units.specs.declared.refusal.Check.{Check}
 use Rattle.units.specs.Bound.{most_gigajoules, most_hour, most_backhaul}
 use Rattle.units.specs.Refusals.{within, keep}
 use Rattle.units.proofs.Checks.{accepts-both, accepts-kept, accepts-within}
@@ -37,7 +37,7 @@ module _ (day : Day) (numbers : List ℕ) (S : Sound day numbers) (row : ℕ) (l
   figure place = meter_at day.counts (col numbers) row place
 
   -- the row may be had
-  pub meter-accepts : meter_check day.counts numbers row ≡ Check.Accepted
+  pub meter-accepts : meter_check day.counts numbers row ≡ Ok tt
   meter-accepts = row-accepts day numbers S Meter refl row l
 
   pub figures-had : meter_figures day.counts numbers row ≡ figures_of day.counts (col numbers) row
@@ -66,7 +66,7 @@ module _ (day : Day) (numbers : List ℕ) (S : Sound day numbers) (row : ℕ) (l
       most place (omega (arith, few)) (among (1 of name ∷ 2 of gigajoules ∷ []) (59 of hour) _ place some few)
 
   hours-within : (at many : ℕ) → 3 ≤ at → at + many ≤ 62
-      → within most_hour (bare_hours (megajoules (hours_from day.counts (col numbers) Meter row at many))) ≡ Check.Accepted
+      → within most_hour (bare_hours (megajoules (hours_from day.counts (col numbers) Meter row at many))) ≡ Ok tt
   hours-within at many some few =
       rw same-figures
       (accepts-within most_hour (listed many (λ hour. figure (at + hour)))
@@ -76,7 +76,7 @@ module _ (day : Day) (numbers : List ℕ) (S : Sound day numbers) (row : ℕ) (l
       (of_hours (at + place) (omega (arith, some)) (omega (arith, few, inside)))))
 
   -- ---- the day's overruns
-  pub overruns_accept : day_check (shipper_day day.counts numbers row) ≡ Check.Accepted
+  pub overruns_accept : day_check (shipper_day day.counts numbers row) ≡ Ok tt
   unfolding day_check mdqs_check side_check sides_check hours_check
   overruns_accept =
       rw (figures-had, meter-accepts)
@@ -97,5 +97,5 @@ module _ (day : Day) (numbers : List ℕ) (S : Sound day numbers) (row : ℕ) (l
       (hours-within 3 11 (omega arith) (omega arith)))
       (accepts-both (accepts-both refl (hours-within 14 24 (omega arith) (omega arith))) (hours-within 38 24 (omega arith) (omega arith))))
     where
-      gigajoules-kept : {n : ℕ} → n ≤ most_gigajoules → keep (leb n most_gigajoules) 3 ≡ Check.Accepted
+      gigajoules-kept : {n : ℕ} → n ≤ most_gigajoules → keep (leb n most_gigajoules) 3 ≡ Ok tt
       gigajoules-kept h = accepts-kept 3 (le-leb _ _ h)

@@ -1,4 +1,5 @@
 -- Room for every listing of charges: each figure has as many digits as its bound at most, and there are at most 64 meters.
+use Rattle.std.specs.Prelude.{Ok}
 use mathlib.Core.Path.{◌≡◌, refl}
 use mathlib.Core.List.{List, [], ◌∷◌}
 use Prim.Native.Nat.{ℕ, ◌≤◌, ◌<◌}
@@ -9,7 +10,6 @@ use lib.ListN.{length, length-append}
 use Rattle.columns.specs.Column.{joined}
 use Rattle.units.specs.declared.Megajoules.{Megajoules}
 use Rattle.units.specs.declared.Rate.{Rate}
-use Rattle.units.specs.declared.refusal.Check.TheVariants.{Accepted}
 use Rattle.units.specs.Bound.{most_chargeable, most_rate}
 use Rattle.units.proofs.Checks.{both-accepted, kept}
 use Rattle.tariff.specs.HalfUp.{half_up}
@@ -100,7 +100,7 @@ module _ (rate : Rate) (kept_rate : rate.0 ≤ most_rate) where
           S.few Meter,
         )
 
-pub text-most : (rate : Rate) (file : List ℕ) → charges_check rate file ≡ Accepted → length (charges_listing rate file) ≤ 8_192
+pub text-most : (rate : Rate) (file : List ℕ) → charges_check rate file ≡ Ok tt → length (charges_listing rate file) ≤ 8_192
 unfolding charges_check
 text-most rate file accepted =
     let both = both-accepted _ _ accepted in

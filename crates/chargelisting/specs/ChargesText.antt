@@ -2,9 +2,8 @@
 use Rattle.std.specs.Prelude.{List, [], ◌∷◌, ◌++◌, ℕ, leb}
 use Rattle.columns.specs.Column.{joined}
 use Rattle.units.specs.declared.Rate.{Rate}
-use Rattle.units.specs.declared.refusal.Check.{Check}
 use Rattle.units.specs.Bound.{most_rate}
-use Rattle.units.specs.Refusals.{◌then◌, keep}
+use Rattle.units.specs.Refusals.{◌then◌, keep, Check}
 use Rattle.text.specs.Text.{decimal}
 use Rattle.tariff.specs.Charges.{overrun_charge, charge_verdict}
 use Rattle.lines.specs.Line.{line, decimals, day_word}

@@ -6,13 +6,13 @@ ghost use Rattle.chargelisting.specs.ChargesText.{overruns_of, charge_figures};
 
 use dayformat::Counts;
 use daymeters::{
-    MeterFigures, MeterRow, excused_hours, excused_row, excused_yesterday, meter_figures,
-    meter_hours, meter_yesterday,
+    MeterFigures, excused_hours, excused_row, excused_yesterday, meter_figures, meter_hours,
+    meter_yesterday,
 };
 use metered::Side;
-use overruns::{DayOverruns, Overruns, overruns_of_day};
-use tariff::{Charge, overrun_charge};
-use units::{Gigajoules, Megajoules, Rate};
+use overruns::{Overruns, overruns_of_day};
+use tariff::overrun_charge;
+use units::{Cents, Gigajoules, Megajoules, Rate};
 
 const NO_OVERRUNS: Overruns = Overruns {
     hourly: Megajoules(0),
@@ -40,11 +40,7 @@ const NO_FIGURES: MeterFigures = MeterFigures {
 fn figures_of(counts: Counts, numbers: &[usize], row: u32) -> MeterFigures
     ensures { result ≡ meter_figures counts numbers.now row }
 {
-    let meter = meter_figures(counts, numbers, row);
-    match meter {
-        MeterRow::Refused(_) => NO_FIGURES,
-        MeterRow::Meter(figures) => figures,
-    }
+    meter_figures(counts, numbers, row).unwrap_or(NO_FIGURES)
 }
 
 // A meter's overruns, all zero where they are refused.
@@ -55,7 +51,7 @@ fn overruns_of(counts: Counts, numbers: &[usize], row: u32) -> Overruns
     let yesterday = meter_yesterday(counts, numbers, row);
     let hours = meter_hours(counts, numbers, row);
     let excused = excused_row(counts, numbers, figures.shipper);
-    let day = overruns_of_day(
+    overruns_of_day(
         figures.p,
         figures.m,
         yesterday,
@@ -64,22 +60,15 @@ fn overruns_of(counts: Counts, numbers: &[usize], row: u32) -> Overruns
         figures.delivery,
         excused_yesterday(counts, numbers, excused),
         excused_hours(counts, numbers, excused),
-    );
-    match day {
-        DayOverruns::Refused(_) => NO_OVERRUNS,
-        DayOverruns::Over(over) => over,
-    }
+    )
+    .unwrap_or(NO_OVERRUNS)
 }
 
 // What an overrun costs, zero where it is refused.
 fn cents_of(rate: Rate, overrun: Megajoules) -> u64
     ensures { result ≡ (charge_verdict (overrun_charge rate overrun)).figures.0 }
 {
-    let charge = overrun_charge(rate, overrun);
-    match charge {
-        Charge::Refused(_) => 0,
-        Charge::Charged(due) => due.0,
-    }
+    overrun_charge(rate, overrun).unwrap_or(Cents(0)).0
 }
 
 // The figures of a meter's line.

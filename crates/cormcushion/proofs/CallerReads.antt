@@ -1,5 +1,6 @@
 -- For every input, what a caller reads out of each function's number is the answer of the routine that it calls: the routine's tests
 -- decide that answer, its places lie within a full day's file, among 64 rows, 32 days or 24 hours, and its figures are bounded.
+use Rattle.std.specs.Prelude.{Ok}
 use mathlib.Core.Path.{◌≡◌, refl, subst, ◌∙◌}
 use mathlib.Core.List.{List}
 use Prim.Native.Nat.{ℕ, ◌≤◌}
@@ -7,9 +8,7 @@ use native.Mathlib.Omega.{arith}
 use lib.ListN.{length}
 use Rattle.columns.specs.Column.{col}
 use Rattle.sharing.proofs.Levels.{level_is}
-use Rattle.units.specs.declared.refusal.Check.{Check}
-use Rattle.units.specs.declared.refusal.Check.TheVariants.{Accepted}
-use Rattle.units.specs.Refusals.{◌then◌}
+use Rattle.units.specs.Refusals.{◌then◌, Check}
 use Rattle.units.specs.Verdict.{Decided, of_check as check-verdict}
 use Rattle.units.proofs.Checks.{both-accepted}
 use Rattle.units.proofs.Places.{PlacedTo}
@@ -87,7 +86,7 @@ reading_reads {file} {lent = lent} R =
 
 -- ---- listings: the size of a text
 listing_reads : {tests : Check} {text lent after : List ℕ} {packed : ℕ} (L : ListingPacked tests text lent after packed)
-    → PlacedTo most_file tests → (tests ≡ Accepted → length text ≤ most_figure)
+    → PlacedTo most_file tests → (tests ≡ Ok tt → length text ≤ most_figure)
     → Decided (listing_check tests text (length lent)) (length text) 0 (listing_verdict L.listing)
     → Unpacks packed (listing_verdict L.listing) (λ size. size)
 unfolding listing_check

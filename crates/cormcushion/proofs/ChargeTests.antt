@@ -1,4 +1,5 @@
 -- The tests of `cormcushion_overruns_excused`: they refuse by 3 alone, a single figure or one of 24 hours; what they accept is charged.
+use Rattle.std.specs.Prelude.{Ok, Err}
 use mathlib.Core.Path.{◌≡◌, refl, ap}
 use mathlib.Core.Bool.{Bool}
 use mathlib.Core.List.{List}
@@ -11,11 +12,9 @@ use Rattle.columns.proofs.Lists.{length-listed}
 use Rattle.units.specs.declared.Gigajoules.{Gigajoules}
 use Rattle.units.specs.declared.Megajoules.{Megajoules}
 use Rattle.units.specs.declared.refusal.Refusal.{Refusal}
-use Rattle.units.specs.declared.refusal.Check.{Check}
-use Rattle.units.specs.declared.refusal.Check.TheVariants.{Accepted, Refused}
 use Rattle.units.specs.Above.{first_above}
 use Rattle.units.specs.Bound.{most_hour, most_rate, most_chargeable}
-use Rattle.units.specs.Refusals.{◌then◌, keep, within}
+use Rattle.units.specs.Refusals.{◌then◌, keep, within, Check, first_refusal}
 use Rattle.units.proofs.Checks.{both-accepted, kept}
 use Rattle.units.proofs.Places.{PlacedTo}
 use Rattle.units.proofs.Verdicts.{Refuses, refuses_none, refuses_then, refuses_keep, refuses_clear, AllNumbered}
@@ -41,7 +40,7 @@ infixl 20 ◌also◌
 ◌also◌ : {a b : Check} → Refuses Third a → Refuses Third b → Refuses Third (a then b)
 ◌also◌ {a} {b} A B = refuses_then Third a b A (λ accepted. B)
 
-no_test : Refuses Third Accepted
+no_test : Refuses Third (Ok tt)
 no_test = refuses_none Third
 
 single : (kept : Bool) → Refuses Third (keep kept 3)
@@ -107,30 +106,30 @@ module _ (rate p m : ℕ) (yesterday delivered received schedules metered : List
 
 -- ---- what is accepted
 module _ (rate : ℕ) (D : ShipperDay) (E : ExcusedHours) where
-  rate-kept : rate_check rate ≡ Accepted → rate ≤ most_rate
+  rate-kept : rate_check rate ≡ Ok tt → rate ≤ most_rate
   unfolding rate_check
   rate-kept e = leb-true _ _ (kept _ _ (both-accepted _ _ e).1)
 
-  greatest-kept : excused_day_check D E ≡ Accepted → (excused_day_overruns D E).greatest.0 ≤ most_chargeable
+  greatest-kept : excused_day_check D E ≡ Ok tt → (excused_day_overruns D E).greatest.0 ≤ most_chargeable
   greatest-kept e = (rw e at (excused-day-kept D E refl)).chargeable
 
   pub charge-packs : of_rated (rate_check rate) (of_overruns rate (excused_day_answer D E))
       ≡ packed_check (excused_charge_check rate D E) (excused_charge_cents rate D E)
-  unfolding ◌then◌
+  unfolding first_refusal
   charge-packs = by_rate (rate_check rate) refl
     where
       by_day : rate ≤ most_rate → (found : Check) → excused_day_check D E ≡ found
           → of_overruns rate (day_where found (excused_day_overruns D E)) ≡ packed_check found (excused_charge_cents rate D E)
-      by_day l Accepted e = ap of_charge (overrun_charged (rate_of rate) (excused_day_overruns D E).greatest l (greatest-kept e))
-      by_day l (Refused refusal) e = refl
+      by_day l (Ok _) e = ap of_charge (overrun_charged (rate_of rate) (excused_day_overruns D E).greatest l (greatest-kept e))
+      by_day l (Err refusal) e = refl
 
       by_rate : (found : Check) → rate_check rate ≡ found
           → of_rated found (of_overruns rate (excused_day_answer D E))
           ≡ packed_check (found then excused_day_check D E) (excused_charge_cents rate D E)
-      by_rate Accepted e = by_day (rate-kept e) (excused_day_check D E) refl
-      by_rate (Refused refusal) e = refl
+      by_rate (Ok _) e = by_day (rate-kept e) (excused_day_check D E) refl
+      by_rate (Err refusal) e = refl
 
-  pub charge-most : excused_charge_check rate D E ≡ Accepted → excused_charge_cents rate D E ≤ most_cents
+  pub charge-most : excused_charge_check rate D E ≡ Ok tt → excused_charge_cents rate D E ≤ most_cents
   charge-most e =
       let both = both-accepted (rate_check rate) (excused_day_check D E) e in
       cents-most (rate_of rate) (excused_day_overruns D E).greatest (rate-kept both.0) (greatest-kept both.1)

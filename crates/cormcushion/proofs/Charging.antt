@@ -1,4 +1,5 @@
 -- The rate's refusal comes first; else the day's own answer is priced.
+use Rattle.std.specs.Prelude.{Result, Ok, Err}
 use mathlib.Core.Path.{◌≡◌}
 use mathlib.Core.List.{List, [], ◌∷◌}
 use Prim.Native.Nat.{ℕ}
@@ -6,22 +7,21 @@ use lib.Dec.{leb}
 use Rattle.units.specs.declared.Gigajoules.{Gigajoules}
 use Rattle.units.specs.declared.Megajoules.{Megajoules}
 use Rattle.units.specs.declared.refusal.Refusal.{Refusal}
-use Rattle.units.specs.declared.refusal.Check.TheVariants.{Accepted, Refused}
 use Rattle.units.specs.Bound.{most_rate}
 use Rattle.units.specs.Refusals.{◌then◌, keep}
 use Rattle.metered.specs.declared.Side.{Side}
-use Rattle.overruns.specs.declared.day.DayOverruns.{DayOverruns}
 use Rattle.overruns.specs.Excused.{excused_day_answer}
 use Rattle.cormcushion.specs.Packed.{refused}
 use Rattle.cormcushion.specs.Meter.{of_overruns, with_overruns, rate_check, PricePacked}
+use Rattle.overruns.specs.declared.day.Overruns.{Overruns}
 
-module _ {rate : ℕ} {over : DayOverruns} {lent : List ℕ} {packed : ℕ} where
-  pub refused-rate : {x : Refusal} → (Accepted then keep (leb rate most_rate) 3) ≡ Refused x → packed ≡ refused x
+module _ {rate : ℕ} {over : Result Overruns Refusal} {lent : List ℕ} {packed : ℕ} where
+  pub refused-rate : {x : Refusal} → (Ok tt then keep (leb rate most_rate) 3) ≡ Err x → packed ≡ refused x
       → PricePacked rate over lent packed lent
   unfolding rate_check
   refused-rate is e = record { answers = rw is e; leaves = rw is }
 
-  pub charged : {after : List ℕ} → (Accepted then keep (leb rate most_rate) 3) ≡ Accepted → packed ≡ of_overruns rate over
+  pub charged : {after : List ℕ} → (Ok tt then keep (leb rate most_rate) 3) ≡ Ok tt → packed ≡ of_overruns rate over
       → after ≡ with_overruns rate over lent → PricePacked rate over lent packed after
   unfolding rate_check
   charged is e l = record { answers = rw is e; leaves = rw is l }

@@ -1,9 +1,9 @@
 -- Two numbers that meet a function's statement are equal, and so are the lent lists afterwards: the routine's own are.
+use Rattle.std.specs.Prelude.{Result}
 use mathlib.Core.Path.{◌≡◌, sym, ap, ◌∙◌}
 use mathlib.Core.List.{List}
 use Prim.Native.Nat.{ℕ}
-use Rattle.units.specs.declared.refusal.Check.{Check}
-use Rattle.units.specs.Refusals.{accepted_or}
+use Rattle.units.specs.Refusals.{accepted_or, Check}
 use Rattle.units.proofs.Determined.{determined}
 use Rattle.rounds.proofs.Determined.{round_determined}
 use Rattle.lines.proofs.Determined.{listed_determined}
@@ -11,13 +11,14 @@ use Rattle.metered.specs.Hours.{bare_hours}
 use Rattle.readings.specs.declared.hour.HourReading.{HourReading}
 use Rattle.readings.specs.Day.{bare_volumes}
 use Rattle.daytable.specs.Table.{Table}
-use Rattle.overruns.specs.declared.day.DayOverruns.{DayOverruns}
 use Rattle.dayshares.proofs.Determined.{day_determined}
 use Rattle.dayfile.proofs.Determined.{reading_determined}
 use Rattle.cormcushion.specs.Answers.{of_listing, of_reading, of_round, of_shares, with_day, with_levels}
 use Rattle.cormcushion.specs.Lent.{ListingPacked, ReadingPacked, RoundPacked, SharesPacked}
 use Rattle.cormcushion.specs.Meter.{PricePacked}
 use Rattle.cormcushion.specs.DayGas.{of_metered, DayGasPacked}
+use Rattle.overruns.specs.declared.day.Overruns.{Overruns}
+use Rattle.units.specs.declared.refusal.Refusal.{Refusal}
 
 -- what is computed from equal answers is equal
 same : {X Y : Type 0} {x y : X} {a b : Y} (f : X → Y) → a ≡ f x → b ≡ f y → x ≡ y → a ≡ b
@@ -56,7 +57,7 @@ packed-shares_determined {levels = levels} a b =
       same (λ day. with_levels day levels) a.leaves_levels b.leaves_levels is.0,
     )
 
-pub charge_determined : {rate : ℕ} {over : DayOverruns} {lent l₁ l₂ : List ℕ} {p₁ p₂ : ℕ}
+pub charge_determined : {rate : ℕ} {over : Result Overruns Refusal} {lent l₁ l₂ : List ℕ} {p₁ p₂ : ℕ}
     → PricePacked rate over lent p₁ l₁ → PricePacked rate over lent p₂ l₂ → (p₁ ≡ p₂) × (l₁ ≡ l₂)
 charge_determined a b = (determined a.answers b.answers, determined a.leaves b.leaves)
 

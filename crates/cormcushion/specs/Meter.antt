@@ -1,20 +1,19 @@
 -- One shipper's metered day as numbers, its overruns and their charge.
-use Rattle.std.specs.Prelude.{◌≡◌, List, [], ◌∷◌, ℕ, ◌+◌, leb}
+use Rattle.std.specs.Prelude.{◌≡◌, List, [], ◌∷◌, ℕ, ◌+◌, leb, Result, Ok, Err}
 use Rattle.columns.specs.Column.{col, listed}
 use Rattle.units.specs.declared.Megajoules.{Megajoules}
 use Rattle.units.specs.declared.Rate.{Rate}
-use Rattle.units.specs.declared.refusal.Check.{Check}
 use Rattle.units.specs.Bound.{most_rate}
-use Rattle.units.specs.Refusals.{◌then◌, keep, accepted_or}
-use Rattle.tariff.specs.declared.charges.Charge.{Charge}
+use Rattle.units.specs.Refusals.{◌then◌, keep, accepted_or, Check}
 use Rattle.tariff.specs.Charges.{overrun_cents, overrun_charge}
 use Rattle.metered.specs.declared.Side.{Side}
 use Rattle.overruns.specs.declared.day.Overruns.{Overruns}
-use Rattle.overruns.specs.declared.day.DayOverruns.{DayOverruns}
 use Rattle.overruns.specs.Day.{ShipperDay, day_overruns, day_check, day_answer}
 use Rattle.overruns.specs.Excused.{ExcusedHours, excused_day_overruns, excused_day_check, excused_day_answer}
 use Rattle.daymeters.specs.Hours.{megajoules}
 use Rattle.cormcushion.specs.Packed.{accepted, refused}
+use Rattle.units.specs.declared.Cents.{Cents}
+use Rattle.units.specs.declared.refusal.Refusal.{Refusal}
 
 -- a side's single figures: schedules of both sides, forward then backhaul, and the backhaul metered
 abbrev pub side_of : List ℕ → List ℕ → ℕ → Side
@@ -52,33 +51,33 @@ abbrev pub rate_of : ℕ → Rate
 rate_of rate = record { 0 = rate }
 
 -- ---- the charge for overruns, packed; where it is not refused they go to the lent list
-abbrev pub of_charge : Charge → ℕ
-of_charge (Charge.Refused refusal) = refused refusal
-of_charge (Charge.Charged cents) = accepted cents.0
+abbrev pub of_charge : Result Cents Refusal → ℕ
+of_charge (Err refusal) = refused refusal
+of_charge (Ok cents) = accepted cents.0
 
-abbrev pub with_charge : Charge → Overruns → List ℕ → List ℕ
-with_charge (Charge.Refused refusal) over lent = lent
-with_charge (Charge.Charged cents) over lent = overrun_figures over
+abbrev pub with_charge : Result Cents Refusal → Overruns → List ℕ → List ℕ
+with_charge (Err refusal) over lent = lent
+with_charge (Ok cents) over lent = overrun_figures over
 
 -- ---- the same of a day's overruns, where they are not refused themselves
-abbrev pub of_overruns : ℕ → DayOverruns → ℕ
-of_overruns rate (DayOverruns.Refused refusal) = refused refusal
-of_overruns rate (DayOverruns.Over over) = of_charge (overrun_charge (rate_of rate) over.greatest)
+abbrev pub of_overruns : ℕ → Result Overruns Refusal → ℕ
+of_overruns rate (Err refusal) = refused refusal
+of_overruns rate (Ok over) = of_charge (overrun_charge (rate_of rate) over.greatest)
 
-abbrev pub with_overruns : ℕ → DayOverruns → List ℕ → List ℕ
-with_overruns rate (DayOverruns.Refused refusal) lent = lent
-with_overruns rate (DayOverruns.Over over) lent = with_charge (overrun_charge (rate_of rate) over.greatest) over lent
+abbrev pub with_overruns : ℕ → Result Overruns Refusal → List ℕ → List ℕ
+with_overruns rate (Err refusal) lent = lent
+with_overruns rate (Ok over) lent = with_charge (overrun_charge (rate_of rate) over.greatest) over lent
 
 -- the rate is a single figure, so it is tested before the hours
 unfoldable pub rate_check : ℕ → Check
-rate_check rate = Check.Accepted then keep (leb rate most_rate) 3
+rate_check rate = Ok tt then keep (leb rate most_rate) 3
 
 abbrev pub of_rated : Check → ℕ → ℕ
-of_rated Check.Accepted next = next
-of_rated (Check.Refused refusal) next = refused refusal
+of_rated (Ok _) next = next
+of_rated (Err refusal) next = refused refusal
 
 -- the statement of a call, whatever its day's overruns: the charge, packed, and the lent list afterwards
-pub record PricePacked (rate : ℕ) (over : DayOverruns) (lent : List ℕ) (packed : ℕ) (after : List ℕ) : Type 0 where
+pub record PricePacked (rate : ℕ) (over : Result Overruns Refusal) (lent : List ℕ) (packed : ℕ) (after : List ℕ) : Type 0 where
   pub answers : packed ≡ of_rated (rate_check rate) (of_overruns rate over)
   pub leaves : after ≡ accepted_or (rate_check rate) (with_overruns rate over lent) lent
 

@@ -1,11 +1,10 @@
 -- An answer as one number in fixed decimal digits: the last fifteen hold a value where accepted and the place where refused, the
 -- two before them 01's number (00 where accepted), and those before these a kind, which no refusal has yet. No value and no place
 -- that a function packs is as great as 10^15, so what is read out is the answer, for every input.
-use Rattle.std.specs.Prelude.{◌≡◌, ℕ, ◌+◌, ◌*◌, ◌/◌, ◌%◌}
+use Rattle.std.specs.Prelude.{◌≡◌, ℕ, ◌+◌, ◌*◌, ◌/◌, ◌%◌, Ok, Err}
 use Rattle.units.specs.declared.refusal.Refusal.{Refusal}
-use Rattle.units.specs.declared.refusal.Check.{Check}
-use Rattle.units.specs.declared.refusal.Check.TheVariants.{Accepted, Refused}
 use Rattle.units.specs.Verdict.{Verdict}
+use Rattle.units.specs.Refusals.{Check}
 
 -- what 1 counts for in the digits of the number, and in those of the kind
 abbrev pub one_number : ℕ
@@ -39,5 +38,5 @@ pub record Unpacks {Figures : Type 0} (packed : ℕ) (verdict : Verdict Figures)
 
 -- ---- of what the tests find, with the value where they accept
 abbrev pub packed_check : Check → ℕ → ℕ
-packed_check Accepted value = accepted value
-packed_check (Refused refusal) value = refused refusal
+packed_check (Ok _) value = accepted value
+packed_check (Err refusal) value = refused refusal

@@ -3,48 +3,47 @@ ghost use Rattle.std.specs.Prelude.{◌≡◌};
 ghost use Rattle.cormcushion.specs.Answers.{of_listing, of_reading, of_round, of_shares};
 
 use crate::packed::{accepted, refused};
-use dayfile::Reading;
-use dayformat::numbers_of;
-use dayshares::Day;
-use lines::Listing;
-use rounds::Round;
+use dayformat::{Day, numbers_of};
+use dayshares::Shares;
+use rounds::Given;
+use units::Refusal;
 
 // The size of a text.
-pub fn of_listing(listing: Listing) -> u64
+pub fn of_listing(listing: Result<usize, Refusal>) -> u64
     ensures { result ≡ of_listing listing }
 {
     match listing {
-        Listing::Refused(refusal) => refused(refusal),
-        Listing::Text(size) => accepted(size as u64),
+        Err(refusal) => refused(refusal),
+        Ok(size) => accepted(size as u64),
     }
 }
 
 // How many numbers a day has.
-pub fn of_reading(reading: Reading) -> u64
+pub fn of_reading(reading: Result<Day, Refusal>) -> u64
     ensures { result ≡ of_reading reading }
 {
     match reading {
-        Reading::Refused(refusal) => refused(refusal),
-        Reading::Read(day) => accepted(numbers_of(day.counts) as u64),
+        Err(refusal) => refused(refusal),
+        Ok(day) => accepted(numbers_of(day.counts) as u64),
     }
 }
 
 // The level of a round.
-pub fn of_round(round: Round) -> u64
+pub fn of_round(round: Result<Given, Refusal>) -> u64
     ensures { result ≡ of_round round }
 {
     match round {
-        Round::Refused(refusal) => refused(refusal),
-        Round::Shared(given) => accepted(given.level),
+        Err(refusal) => refused(refusal),
+        Ok(given) => accepted(given.level),
     }
 }
 
 // What a day's shares leave.
-pub fn of_shares(day: Day) -> u64
+pub fn of_shares(day: Result<Shares, Refusal>) -> u64
     ensures { result ≡ of_shares day }
 {
     match day {
-        Day::Refused(refusal) => refused(refusal),
-        Day::Shared(shares) => accepted(shares.left.0 as u64),
+        Err(refusal) => refused(refusal),
+        Ok(shares) => accepted(shares.left.0 as u64),
     }
 }

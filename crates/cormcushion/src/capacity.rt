@@ -4,9 +4,9 @@ ghost use Rattle.cormcushion.specs.Answers.{level_figures, with_levels};
 ghost use Rattle.cormcushion.specs.Lent.{RoundPacked, SharesPacked};
 
 use crate::answers::{of_round, of_shares};
-use dayshares::{Day, Levels, share_day};
+use dayshares::{Levels, Shares, share_day};
 use rounds::share_round;
-use units::Gigajoules;
+use units::{Gigajoules, Refusal};
 
 // One sharing round: its level, with the shares at the front of the lent list.
 pub fn cormcushion_share_round(
@@ -78,11 +78,10 @@ fn figures_of(levels: Levels) -> [u64; 5]
 }
 
 // A refusal leaves them as they were.
-fn put_levels(day: Day, lent: &mut [u64; 5])
+fn put_levels(day: Result<Shares, Refusal>, lent: &mut [u64; 5])
     ensures { lent.new ≡ with_levels day lent.old }
 {
-    match day {
-        Day::Refused(_) => {}
-        Day::Shared(shares) => *lent = figures_of(shares.levels),
+    if let Ok(shares) = day {
+        *lent = figures_of(shares.levels);
     }
 }

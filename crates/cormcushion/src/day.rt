@@ -8,8 +8,9 @@ ghost use Rattle.cormcushion.specs.Answers.{day_figures, with_day};
 ghost use Rattle.cormcushion.specs.Lent.{ReadingPacked};
 
 use crate::answers::of_reading;
-use dayfile::{Reading, read_day};
+use dayfile::read_day;
 use dayformat::{Day, MOST_NUMBERS};
+use units::Refusal;
 
 // The check of a day file alone: how many numbers its day has.
 pub fn cormcushion_check_day(file: &[u8]) -> u64
@@ -48,11 +49,10 @@ fn figures_of(day: Day) -> [u32; 8]
 }
 
 // A refusal leaves them as they were.
-fn put_day(reading: Reading, lent: &mut [u32; 8])
+fn put_day(reading: Result<Day, Refusal>, lent: &mut [u32; 8])
     ensures { lent.new ≡ with_day reading lent.old }
 {
-    match reading {
-        Reading::Refused(_) => {}
-        Reading::Read(day) => *lent = figures_of(day),
+    if let Ok(day) = reading {
+        *lent = figures_of(day);
     }
 }

@@ -10,9 +10,9 @@ ghost use Rattle.cormcushion.specs.Meter.{PricePacked, ChargePacked, ExcusedChar
 use crate::hours::{hours_of_today, hours_of_yesterday};
 use crate::packed::{accepted, refused};
 use metered::Side;
-use overruns::{DayOverruns, Overruns, metered_overruns, overruns_of_day};
-use tariff::{Charge, overrun_charge};
-use units::{Check, Gigajoules, MOST_RATE, Megajoules, Rate};
+use overruns::{Overruns, metered_overruns, overruns_of_day};
+use tariff::overrun_charge;
+use units::{Gigajoules, MOST_RATE, Megajoules, Rate, Refusal, keep};
 
 // The charge in cents for the greatest of a day's four overruns, with the four and the greatest in `lent`.
 pub fn cormcushion_overruns(
@@ -92,7 +92,7 @@ fn metered_of(
     received: &[u64; 24],
     schedules: &[u32; 4],
     metered: &[u64; 2],
-) -> DayOverruns
+) -> Result<Overruns, Refusal>
     ensures { result ≡ day_answer
         (shipper_day p m yesterday.now delivered.now received.now
         schedules.now metered.now) }
@@ -120,7 +120,7 @@ fn overruns_of(
     excused_yesterday: &[u64; 11],
     excused_delivered: &[u64; 24],
     excused_received: &[u64; 24],
-) -> DayOverruns
+) -> Result<Overruns, Refusal>
     ensures { result ≡ excused_day_answer
         (shipper_day p m yesterday.now delivered.now received.now
         schedules.now metered.now)
@@ -161,10 +161,9 @@ fn price(rate: u32, over: Overruns, lent: &mut [u64; 5]) -> u64
     ensures value { result ≡ of_charge (overrun_charge (rate_of rate) over.greatest) }
     ensures lent_after { lent.new ≡ with_charge (overrun_charge (rate_of rate) over.greatest) over lent.old }
 {
-    let charge = overrun_charge(Rate(rate), over.greatest);
-    match charge {
-        Charge::Refused(refusal) => refused(refusal),
-        Charge::Charged(cents) => {
+    match overrun_charge(Rate(rate), over.greatest) {
+        Err(refusal) => refused(refusal),
+        Ok(cents) => {
             *lent = figures_of(over);
             accepted(cents.0)
         }
@@ -172,23 +171,22 @@ fn price(rate: u32, over: Overruns, lent: &mut [u64; 5]) -> u64
 }
 
 // The charge for a day's overruns, where they are not refused.
-fn price_day(rate: u32, over: DayOverruns, lent: &mut [u64; 5]) -> u64
+fn price_day(rate: u32, over: Result<Overruns, Refusal>, lent: &mut [u64; 5]) -> u64
     ensures value { result ≡ of_overruns rate over }
     ensures lent_after { lent.new ≡ with_overruns rate over lent.old }
 {
     match over {
-        DayOverruns::Refused(refusal) => refused(refusal),
-        DayOverruns::Over(overruns) => price(rate, overruns, lent),
+        Err(refusal) => refused(refusal),
+        Ok(overruns) => price(rate, overruns, lent),
     }
 }
 
 // The same where the rate is within its bound: the refusal of a single figure comes before those of hours.
-fn price_rated(rate: u32, over: DayOverruns, lent: &mut [u64; 5]) -> u64
+fn price_rated(rate: u32, over: Result<Overruns, Refusal>, lent: &mut [u64; 5]) -> u64
     ensures { PricePacked rate over lent.old result lent.new }
 {
-    let found = Check::Accepted.keep(rate <= MOST_RATE.0, 3);
-    match found {
-        Check::Refused(refusal) => refused(refusal),
-        Check::Accepted => price_day(rate, over, lent),
+    match keep(rate <= MOST_RATE.0, 3) {
+        Err(refusal) => refused(refusal),
+        Ok(()) => price_day(rate, over, lent),
     }
 }

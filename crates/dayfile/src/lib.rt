@@ -4,4 +4,4 @@
 mod reader;
 mod walk;
 
-pub use reader::{Reading, read_day};
+pub use reader::read_day;

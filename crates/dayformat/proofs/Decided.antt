@@ -1,11 +1,11 @@
 -- The tests decide an answer of `Counts::check`: number 0 exactly where every count is within its bound.
 use mathlib.Core.Path.{◌≡◌}
-use Rattle.units.specs.declared.refusal.Check.{Check}
 use Rattle.units.specs.Verdict.{of_check, Decided}
 use Rattle.units.proofs.Verdicts.{AllNumbered, kept_by, each_by, checked}
 use Rattle.dayformat.specs.declared.layout.Counts.{Counts}
 use Rattle.dayformat.specs.Format.{many_tables}
 use Rattle.dayformat.specs.Acceptance.{counts_check}
+use Rattle.units.specs.Refusals.{Check}
 
 pub counts_numbered : (counts : Counts) → AllNumbered (counts_check counts)
 unfolding counts_check

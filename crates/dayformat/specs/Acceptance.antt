@@ -1,7 +1,6 @@
 -- 01, "Refusal numbers": a count beyond its bound is 3.
 use Rattle.std.specs.Prelude.{leb}
-use Rattle.units.specs.declared.refusal.Check.{Check}
-use Rattle.units.specs.Refusals.{keep}
+use Rattle.units.specs.Refusals.{keep, Check}
 use Rattle.units.specs.Each.{each}
 use Rattle.dayformat.specs.declared.layout.Counts.{Counts}
 use Rattle.dayformat.specs.Format.{most, many_tables, tag_at}

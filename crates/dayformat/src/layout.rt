@@ -11,7 +11,7 @@ use crate::form::{
     POINT_COLUMNS, POINT_FIELD, SHIPPER_COLUMNS, SHIPPER_FIELD, Tag, form_of,
 };
 use crate::order::{TABLES, table_place, tag_at};
-use units::Check;
+use units::{Refusal, keep};
 
 // How many numbers a day has at most.
 pub const MOST_NUMBERS: usize = MOST_SHIPPERS as usize * SHIPPER_COLUMNS
@@ -78,17 +78,14 @@ impl Counts {
     }
 
     // 3 for a count beyond its bound.
-    pub fn check(self) -> Check
+    pub fn check(self) -> Result<(), Refusal>
         ensures { result ≡ counts_check self }
     {
-        let mut found = Check::Accepted;
-        let mut place = 0;
-        while place < TABLES {
+        for place in 0..TABLES {
             let tag = tag_at(place);
-            found = found.keep(count_of(self, tag) <= form_of(tag).most, 3);
-            place += 1;
+            keep(count_of(self, tag) <= form_of(tag).most, 3)?;
         }
-        found
+        Ok(())
     }
 }
 

@@ -1,4 +1,5 @@
 -- A row past its table is refused, so a shipper without a tag 9 field has zeros for its excused hours.
+use Rattle.std.specs.Prelude.{Ok, Err}
 use mathlib.Core.Path.{◌≡◌, refl, sym}
 use mathlib.Core.Bool.{false}
 use mathlib.Core.List.{List}
@@ -8,8 +9,7 @@ use native.Mathlib.Omega.{arith}
 use lib.Dec.{eqb}
 use Rattle.columns.specs.Column.{col}
 use Rattle.columns.proofs.Firsts.{first-none}
-use Rattle.units.specs.declared.refusal.Check.{Check}
-use Rattle.units.specs.Refusals.{accepted_or}
+use Rattle.units.specs.Refusals.{accepted_or, Check}
 use Rattle.metered.specs.Hours.{no_hours, no_sides}
 use Rattle.dayformat.specs.declared.form.Tag.{Tag}
 use Rattle.dayformat.specs.declared.form.Tag.TheVariants.{Excused}
@@ -25,8 +25,8 @@ module _ (counts : Counts) (numbers : List ℕ) where
   zeros-past tag row figures zeros past = by (row_check counts numbers tag row) refl
     where
       by : (found : Check) → row_check counts numbers tag row ≡ found → accepted_or found figures zeros ≡ zeros
-      by Check.Accepted e = absurd (omega (arith, past, row_inside counts numbers tag row e))
-      by (Check.Refused refusal) e = refl
+      by (Ok _) e = absurd (omega (arith, past, row_inside counts numbers tag row e))
+      by (Err refusal) e = refl
 
   pub yesterday-past : (row : ℕ) → count counts Excused ≤ row → excused_yesterday counts numbers row ≡ no_hours 11
   yesterday-past row past = zeros-past Excused row _ _ past

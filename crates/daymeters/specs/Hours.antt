@@ -3,8 +3,7 @@ use Rattle.std.specs.Prelude.{◌≡◌, List, [], ◌∷◌, map, ℕ, ◌+◌,
 use Rattle.std.proofs.lemmas.List.Edits.{sets}
 use Rattle.columns.specs.Column.{col, listed}
 use Rattle.units.specs.declared.Megajoules.{Megajoules}
-use Rattle.units.specs.declared.refusal.Check.{Check}
-use Rattle.units.specs.Refusals.{◌then◌, keep, accepted_or}
+use Rattle.units.specs.Refusals.{◌then◌, keep, accepted_or, Check}
 use Rattle.metered.specs.Hours.{no_hours, no_sides}
 use Rattle.dayformat.specs.declared.form.Tag.{Tag}
 use Rattle.dayformat.specs.declared.form.Tag.TheVariants.{Meter}

@@ -1,9 +1,9 @@
 -- The meter table: where a row's numbers stand, and its tests.
 use Rattle.std.specs.Prelude.{List, ℕ, ◌+◌}
-use Rattle.units.specs.declared.refusal.Check.{Check}
 use Rattle.dayformat.specs.declared.form.Tag.TheVariants.{Meter}
 use Rattle.dayformat.specs.declared.layout.Counts.{Counts}
 use Rattle.dayvalues.specs.Row.{number_at, row_check}
+use Rattle.units.specs.Refusals.{Check}
 
 -- refused: 9; 3 a count, a row beyond its count, one of its numbers
 abbrev pub meter_check : Counts → List ℕ → ℕ → Check

@@ -5,31 +5,25 @@ ghost use Rattle.daymeters.specs.Excused.{excused_row_check, excused_shipper, ex
 
 use crate::hours::{today_of, yesterday_of};
 use dayformat::{Counts, Tag};
-use dayvalues::{ShipperRow, check_row, number_at, row_beginning};
-use units::{Check, Megajoules};
+use dayvalues::{check_row, number_at, row_beginning};
+use units::{Megajoules, Refusal};
 
 // Where a row's hours begin.
 const EXCUSED: u32 = 1;
 
 // The first test that a row fails.
-pub fn check_excused(counts: Counts, numbers: &[usize], row: u32) -> Check
+pub fn check_excused(counts: Counts, numbers: &[usize], row: u32) -> Result<(), Refusal>
     ensures { result ≡ excused_row_check counts numbers.now row }
 {
     check_row(counts, numbers, Tag::Excused, row)
 }
 
 // The shipper of a row.
-pub fn excused_shipper(counts: Counts, numbers: &[usize], row: u32) -> ShipperRow
+pub fn excused_shipper(counts: Counts, numbers: &[usize], row: u32) -> Result<u16, Refusal>
     ensures { result ≡ excused_shipper counts numbers.now row }
 {
-    let found = check_excused(counts, numbers, row);
-    match found {
-        Check::Refused(refusal) => ShipperRow::Refused(refusal),
-        Check::Accepted => {
-            let shipper = number_at(counts, numbers, Tag::Excused, row, 0);
-            ShipperRow::Shipper(shipper as u16)
-        }
-    }
+    check_excused(counts, numbers, row)?;
+    Ok(number_at(counts, numbers, Tag::Excused, row, 0) as u16)
 }
 
 // The first row of a shipper, or the number of rows where it has none.

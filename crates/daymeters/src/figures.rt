@@ -11,7 +11,7 @@ use crate::hours::{METERED, megajoules_at};
 use dayformat::{Counts, Tag};
 use dayvalues::number_at;
 use metered::Side;
-use units::{Check, Gigajoules, Refusal};
+use units::{Gigajoules, Refusal};
 
 #[derive(Clone, Copy)]
 pub struct MeterFigures {
@@ -20,13 +20,6 @@ pub struct MeterFigures {
     pub m: Gigajoules,
     pub receipt: Side,
     pub delivery: Side,
-}
-
-// A row's single figures, or why they are refused.
-#[derive(Clone, Copy)]
-pub enum MeterRow {
-    Meter(MeterFigures),
-    Refused(Refusal),
 }
 
 // Where the figures of the sides begin.
@@ -67,12 +60,9 @@ fn figures_of(counts: Counts, numbers: &[usize], row: u32) -> MeterFigures
 }
 
 // The single figures of a row.
-pub fn meter_figures(counts: Counts, numbers: &[usize], row: u32) -> MeterRow
+pub fn meter_figures(counts: Counts, numbers: &[usize], row: u32) -> Result<MeterFigures, Refusal>
     ensures { result ≡ meter_answer counts numbers.now row }
 {
-    let found = check_meter(counts, numbers, row);
-    match found {
-        Check::Refused(refusal) => MeterRow::Refused(refusal),
-        Check::Accepted => MeterRow::Meter(figures_of(counts, numbers, row)),
-    }
+    check_meter(counts, numbers, row)?;
+    Ok(figures_of(counts, numbers, row))
 }

@@ -8,7 +8,7 @@ ghost use Rattle.daymeters.specs.Hours.{meter_yesterday, meter_hours, with_deliv
 use crate::check_meter;
 use dayformat::{Counts, Tag};
 use dayvalues::{check_row, number_at};
-use units::{Check, Megajoules};
+use units::{Megajoules, Refusal, keep};
 
 // Where a meter's hours begin.
 pub const METERED: u32 = 3;
@@ -67,10 +67,9 @@ pub fn yesterday_of(
     requires { at + 59 ≤ 68 }
     ensures { result ≡ yesterday_of counts numbers.now tag row at }
 {
-    let found = check_row(counts, numbers, tag, row);
-    match found {
-        Check::Refused(_) => [Megajoules(0); 11],
-        Check::Accepted => yesterday_from(counts, numbers, tag, row, at),
+    match check_row(counts, numbers, tag, row) {
+        Err(_) => [Megajoules(0); 11],
+        Ok(()) => yesterday_from(counts, numbers, tag, row, at),
     }
 }
 
@@ -85,10 +84,9 @@ pub fn today_of(
     requires { at + 59 ≤ 68 }
     ensures { result ≡ today_of counts numbers.now tag row at }
 {
-    let found = check_row(counts, numbers, tag, row);
-    match found {
-        Check::Refused(_) => [[Megajoules(0); 24]; 2],
-        Check::Accepted => {
+    match check_row(counts, numbers, tag, row) {
+        Err(_) => [[Megajoules(0); 24]; 2],
+        Ok(()) => {
             let delivered = side_from(counts, numbers, tag, row, at + 11);
             let received = side_from(counts, numbers, tag, row, at + 11 + 24);
             [delivered, received]
@@ -121,15 +119,12 @@ fn fill_delivered(counts: Counts, numbers: &[usize], row: u32, out: &mut [u64])
 }
 
 // Yesterday's 11 and today's 24 delivered hours go to the front of `out`; a refusal leaves it as it was.
-pub fn meter_delivered(counts: Counts, numbers: &[usize], row: u32, out: &mut [u64]) -> Check
+#[tactic(auto, unfolding(crate::specs::Hours::delivered_check, units::specs::Refusals::first_refusal))]
+pub fn meter_delivered(counts: Counts, numbers: &[usize], row: u32, out: &mut [u64]) -> Result<(), Refusal>
     ensures { Delivered counts numbers.now row out.old result out.new }
 {
-    let found = check_meter(counts, numbers, row).keep(35 <= out.len(), 7);
-    match found {
-        Check::Refused(refusal) => Check::Refused(refusal),
-        Check::Accepted => {
-            fill_delivered(counts, numbers, row, out);
-            Check::Accepted
-        }
-    }
+    check_meter(counts, numbers, row)?;
+    keep(35 <= out.len(), 7)?;
+    fill_delivered(counts, numbers, row, out);
+    Ok(())
 }

@@ -1,5 +1,4 @@
-// A meter of a day's block, a shipper's metered day, and what is excused of it, opened. An enum can't hold an array, so the hours stand
-// beside the check.
+// A meter of a day's block, a shipper's metered day, and what is excused of it, opened. The hours stand beside the check.
 #![tactic(auto)]
 
 mod excused;
@@ -12,12 +11,12 @@ ghost use Rattle.daymeters.specs.Meter.{meter_check};
 use dayformat::{Counts, Tag};
 use dayvalues::check_row;
 pub use excused::{check_excused, excused_hours, excused_row, excused_shipper, excused_yesterday};
-pub use figures::{MeterFigures, MeterRow, meter_figures};
+pub use figures::{MeterFigures, meter_figures};
 pub use hours::{meter_delivered, meter_hours, meter_yesterday};
-use units::Check;
+use units::Refusal;
 
 // The first test that a meter fails.
-pub fn check_meter(counts: Counts, numbers: &[usize], row: u32) -> Check
+pub fn check_meter(counts: Counts, numbers: &[usize], row: u32) -> Result<(), Refusal>
     ensures { result ≡ meter_check counts numbers.now row }
 {
     check_row(counts, numbers, Tag::Meter, row)

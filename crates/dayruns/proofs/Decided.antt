@@ -1,5 +1,6 @@
 -- A walk's fault decides its check. Anyone can make a walk, so the check's theorem asks that its fault is one of 01's numbers; the
 -- fault of a run is 0 or one of 1 to 5, and so is that of what follows it.
+use Rattle.std.specs.Prelude.{Ok, Err}
 use mathlib.Core.Path.{◌≡◌, refl, sym}
 use mathlib.Core.Bool.{Bool, true, false, cond}
 use mathlib.Core.List.{List}
@@ -10,9 +11,7 @@ use lib.Dec.{T, leb, ltb, eqb, lit≤}
 use lib.ListN.{length, take, drop}
 use Rattle.columns.specs.Column.{col}
 use Rattle.units.specs.declared.refusal.Refusal.{Refusal}
-use Rattle.units.specs.declared.refusal.Check.{Check}
-use Rattle.units.specs.declared.refusal.Check.TheVariants.{Accepted, Refused}
-use Rattle.units.specs.Refusals.{at_byte}
+use Rattle.units.specs.Refusals.{at_byte, Check}
 use Rattle.units.specs.Verdict.{of_check, Numbered, Decided}
 use Rattle.units.proofs.Checks.{no_acceptance, refusal_is}
 use Rattle.units.proofs.Verdicts.{Refuses, AllNumbered, checked}
@@ -34,7 +33,7 @@ pub refuses_walk : (P : Refusal → Type 0) (walk : Walk) → (1 ≤ walk.fault 
 refuses_walk P walk p = by (eqb walk.fault 0) refl
   where
     by : (sound : Bool) → eqb walk.fault 0 ≡ sound
-        → Refuses P (cond sound Accepted (Refused (at_byte walk.fault walk.place)))
+        → Refuses P (cond sound (Ok tt) (Err (at_byte walk.fault walk.place)))
     by true e refusal is = no_acceptance (sym is)
     by false e refusal is = rw (← refusal_is is) (p (omega (arith, eqb-false walk.fault 0 e)))
 

@@ -1,4 +1,5 @@
 -- What follows the last field, and what a walk without a fault says.
+use Rattle.std.specs.Prelude.{Ok, Err}
 use mathlib.Core.Path.{◌≡◌, refl}
 use mathlib.Core.Bool.{Bool, true, false, cond}
 use mathlib.Core.List.{List}
@@ -7,8 +8,7 @@ use native.Mathlib.Omega.{arith}
 use borrow.Author.Tests.{lt-ltb, le-ltb, lt-leb, eq-eqb, leb-true, eqb-true, eqb-false}
 use lib.Dec.{leb, ltb, eqb}
 use lib.ListN.{length}
-use Rattle.units.specs.declared.refusal.Check.TheVariants.{Accepted, Refused}
-use Rattle.units.specs.Refusals.{at_byte}
+use Rattle.units.specs.Refusals.{Check, at_byte}
 use Rattle.units.proofs.Checks.{no_acceptance}
 use Rattle.dayruns.specs.declared.walk.Walk.{Walk}
 use Rattle.dayruns.specs.Walk.{ended, file_check}
@@ -43,10 +43,10 @@ module _ (file : List ℕ) (walk : Walk) where
       by true false false s a e = absurd (omega (arith, e))
 
 -- a file is accepted only without a fault
-pub faultless : (walk : Walk) → file_check walk ≡ Accepted → walk.fault ≡ 0
+pub faultless : (walk : Walk) → file_check walk ≡ Ok tt → walk.fault ≡ 0
 faultless walk = by (eqb walk.fault 0) refl
   where
     by : (sound : Bool) → eqb walk.fault 0 ≡ sound
-        → cond sound Accepted (Refused (at_byte walk.fault walk.place)) ≡ Accepted → walk.fault ≡ 0
+        → cond {A = Check} sound (Ok tt) (Err (at_byte walk.fault walk.place)) ≡ Ok tt → walk.fault ≡ 0
     by true s e = eqb-true _ _ s
     by false s e = no_acceptance e

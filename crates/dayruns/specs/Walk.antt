@@ -1,8 +1,6 @@
 -- A file or a list of entries read up to a place, or to its first faulty field.
-use Rattle.std.specs.Prelude.{cond, List, ℕ, ◌+◌, leb, ltb, eqb, length}
-use Rattle.units.specs.declared.refusal.Check.{Check}
-use Rattle.units.specs.declared.refusal.Check.TheVariants as Check
-use Rattle.units.specs.Refusals.{at_byte}
+use Rattle.std.specs.Prelude.{cond, List, ℕ, ◌+◌, leb, ltb, eqb, length, Ok, Err}
+use Rattle.units.specs.Refusals.{at_byte, Check}
 use Rattle.dayformat.specs.declared.form.Tag.{Tag}
 use Rattle.dayformat.specs.Format.{header}
 use Rattle.dayformat.specs.Layout.{with_count}
@@ -24,4 +22,4 @@ ended file walk =
 
 -- the first faulty field, at its first byte
 abbrev pub file_check : Walk → Check
-file_check walk = cond (eqb walk.fault 0) Check.Accepted (Check.Refused (at_byte walk.fault walk.place))
+file_check walk = cond (eqb walk.fault 0) (Ok tt) (Err (at_byte walk.fault walk.place))

@@ -3,7 +3,7 @@ ghost use Rattle.std.specs.Prelude.{◌≡◌};
 ghost use Rattle.dayruns.specs.Walk.{ended, file_check};
 
 use dayformat::{Counts, HEADER};
-use units::{Check, Refusal};
+use units::Refusal;
 
 // The number of the first fault, 0 for none so far; where it is, or how far is read; and the rows before.
 #[derive(Clone, Copy)]
@@ -41,12 +41,12 @@ impl Walk {
     }
 
     // The first faulty field, at its first byte.
-    pub fn check(self) -> Check
+    pub fn check(self) -> Result<(), Refusal>
         ensures { result ≡ file_check self }
     {
         if self.fault == 0 {
-            return Check::Accepted;
+            return Ok(());
         }
-        Check::Refused(Refusal::at_byte(self.fault, self.place))
+        Err(Refusal::at_byte(self.fault, self.place))
     }
 }

@@ -1,4 +1,5 @@
 -- The tests decide an answer of `share_day`, and one of number 0 keeps demand 3 in the lists that a caller holds.
+use Rattle.std.specs.Prelude.{Result}
 use mathlib.Core.Path.{◌≡◌, refl}
 use mathlib.Core.List.{List}
 use Prim.Native.Nat.{ℕ, ◌≤◌}
@@ -13,7 +14,6 @@ use Rattle.daytable.specs.Table.{Table, rows}
 use Rattle.daytable.specs.Acceptance.{table_check}
 use Rattle.daytable.proofs.Accepting.{accepting}
 use Rattle.daytable.proofs.Decided.{check_numbered}
-use Rattle.dayshares.specs.declared.Day.{Day}
 use Rattle.dayshares.specs.Given.{auction_held, auction_offered, lower_tier_held, lower_tier_offered}
 use Rattle.dayshares.specs.Firm.{firm as firm_of}
 use Rattle.dayshares.specs.Answer.{day_shares, shares_answer, shares_verdict, SharesAnswered}
@@ -21,6 +21,8 @@ use Rattle.dayshares.specs.Promise.{SharesKept}
 use Rattle.dayshares.proofs.Classes.{class_le}
 use Rattle.dayshares.proofs.Firms.{firm_le}
 use Rattle.dayshares.proofs.Promises.{promises}
+use Rattle.units.specs.declared.refusal.Refusal.{Refusal}
+use Rattle.dayshares.specs.declared.Shares.{Shares}
 
 -- of a class that gives no row more than its schedule, and so nothing past the rows: the front of its list, and the rest
 front : (n : ℕ) (schedule lent : List ℕ) {after : List ℕ} {given : ℕ → ℕ} → ((i : ℕ) → given i ≤ col schedule i) → n ≡ length schedule
@@ -31,7 +33,7 @@ front n schedule lent {after} {given} low long fits is = (
   made-rest n given lent after fits is,
 )
 
-module _ {T : Table} {firm_lent auction_lent lower_tier_lent : List ℕ} {day : Day} {firm_after auction_after lower_tier_after : List ℕ}
+module _ {T : Table} {firm_lent auction_lent lower_tier_lent : List ℕ} {day : Result Shares Refusal} {firm_after auction_after lower_tier_after : List ℕ}
     (A : SharesAnswered T firm_lent auction_lent lower_tier_lent day firm_after auction_after lower_tier_after) where
   pub day_decided :
       Decided (table_check T (length firm_lent) (length auction_lent) (length lower_tier_lent)) (day_shares T)

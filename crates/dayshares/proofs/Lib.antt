@@ -1,6 +1,5 @@
 pub mod Firms
 pub mod Classes
-pub mod Holding
 pub mod Furthering
 pub mod Chaining
 pub mod ThreeRounds
@@ -8,7 +7,6 @@ pub mod Splitting
 pub mod Offering
 pub mod Days
 pub mod Accepting
-pub mod Answers
 pub mod Determined
 pub mod Promises
 pub mod Decided

@@ -1,11 +1,11 @@
 -- Demand 3, for every table that the opened routine accepts: a short class ends the day, and each round's own laws do the rest.
+use Rattle.std.specs.Prelude.{Ok}
 use mathlib.Core.Path.{◌≡◌, refl}
 use mathlib.Core.Bool.{Bool, true, false, cond}
 use Prim.Native.Nat.{ℕ, ◌≤◌, ◌<◌}
 use native.Mathlib.Nat.{le_antisymm}
 use native.Mathlib.Omega.{arith}
 use Rattle.columns.specs.Column.{col}
-use Rattle.units.specs.declared.refusal.Check.{Check}
 use Rattle.daytable.specs.Table.{Table, rows}
 use Rattle.daytable.specs.Acceptance.{table_check}
 use Rattle.daytable.proofs.Accepting.{Accepting, accepting}
@@ -94,7 +94,7 @@ module _ (T : Table) (firm_room auction_room lower_tier_room : ℕ) (A : Accepti
 
 -- every accepted table keeps demand 3
 pub promises : (T : Table) (firm_room auction_room lower_tier_room : ℕ)
-    → table_check T firm_room auction_room lower_tier_room ≡ Check.Accepted
+    → table_check T firm_room auction_room lower_tier_room ≡ Ok tt
     → Promise T (firm_given T) (auction_given T) (lower_tier_given T) (left T)
 promises T firm_room auction_room lower_tier_room accepted =
     let A = accepting T firm_room auction_room lower_tier_room accepted in

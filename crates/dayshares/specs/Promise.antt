@@ -1,12 +1,13 @@
 -- Demand 3: what the shares of every accepted table keep, whatever the classes' columns and LEFT were worked out by.
-use Rattle.std.specs.Prelude.{◌≡◌, List, ℕ, ◌+◌, ◌-◌, ◌≤◌, ◌<◌, min, take, drop}
+use Rattle.std.specs.Prelude.{◌≡◌, List, ℕ, ◌+◌, ◌-◌, ◌≤◌, ◌<◌, min, take, drop, Result}
 use Rattle.columns.specs.Column.{col}
 use Rattle.columns.specs.Sum.{sum}
 use Rattle.sharing.specs.Part.{part}
 use Rattle.daytable.specs.Table.{Table, rows}
-use Rattle.dayshares.specs.declared.Day.{Day}
 use Rattle.dayshares.specs.Firm.{compressor_mdq, firm as firm_of}
 use Rattle.dayshares.specs.Answer.{shares_verdict}
+use Rattle.units.specs.declared.refusal.Refusal.{Refusal}
+use Rattle.dayshares.specs.declared.Shares.{Shares}
 
 -- a firm row's pro-rata parts of free flow and of compressor capacity, each rounded down and lessened by one, never below zero
 abbrev pub firm_floor : Table → ℕ → ℕ
@@ -33,7 +34,7 @@ pub record Promise (T : Table) (firm auction lower_tier : ℕ → ℕ) (left : �
   pub firm_least : (i : ℕ) → i < rows T → min (col T.firm_schedule i) (firm_floor T i) ≤ firm i
 
 -- the same of what a caller holds: the fronts of the three lent lists afterwards, and LEFT; the totals are theirs, the rest as it was
-pub record SharesKept (T : Table) (firm_lent auction_lent lower_tier_lent : List ℕ) (day : Day)
+pub record SharesKept (T : Table) (firm_lent auction_lent lower_tier_lent : List ℕ) (day : Result Shares Refusal)
     (firm_after auction_after lower_tier_after : List ℕ) : Type 0 where
   pub promise :
       Promise T (col (take (rows T) firm_after)) (col (take (rows T) auction_after)) (col (take (rows T) lower_tier_after))

@@ -11,7 +11,7 @@ ghost use Rattle.std.specs.Prelude.{◌≡◌};
 ghost use Rattle.dayshares.specs.Firm.{free_flow_mdq};
 ghost use Rattle.dayshares.specs.Answer.{SharesAnswered};
 
-use units::{Check, Gigajoules, Refusal};
+use units::{Gigajoules, Refusal};
 
 // The levels of a day's five rounds; 0 for a round not held.
 #[derive(Clone, Copy)]
@@ -33,12 +33,6 @@ pub struct Shares {
     pub left: Gigajoules,
 }
 
-#[derive(Clone, Copy)]
-pub enum Day {
-    Shared(Shares),
-    Refused(Refusal),
-}
-
 // A row's Free Flow MDQ: three quarters of its firm MDQ rounded down.
 pub fn free_flow_mdq(mdq: Gigajoules) -> Gigajoules
     ensures { result ≡ free_flow_mdq mdq }
@@ -58,7 +52,7 @@ pub fn share_day(
     firm: &mut [u32],
     auction: &mut [u32],
     lower_tier: &mut [u32],
-) -> Day
+) -> Result<Shares, Refusal>
     ensures { SharesAnswered
         (record {
           free_flow = free_flow.0;
@@ -73,7 +67,7 @@ pub fn share_day(
         result
         firm.new auction.new lower_tier.new }
 {
-    let found = daytable::examine_day(
+    daytable::examine_day(
         free_flow,
         compressor,
         firm_mdq,
@@ -84,20 +78,17 @@ pub fn share_day(
         firm.len(),
         auction.len(),
         lower_tier.len(),
-    );
-    match found {
-        Check::Refused(refusal) => Day::Refused(refusal),
-        Check::Accepted => Day::Shared(accepted::share_accepted(
-            free_flow.0,
-            compressor.0,
-            firm_mdq,
-            auction_mdq,
-            firm_schedule,
-            auction_schedule,
-            lower_tier_schedule,
-            firm,
-            auction,
-            lower_tier,
-        )),
-    }
+    )?;
+    Ok(accepted::share_accepted(
+        free_flow.0,
+        compressor.0,
+        firm_mdq,
+        auction_mdq,
+        firm_schedule,
+        auction_schedule,
+        lower_tier_schedule,
+        firm,
+        auction,
+        lower_tier,
+    ))
 }

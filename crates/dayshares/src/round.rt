@@ -4,7 +4,7 @@ ghost use Rattle.rounds.specs.Private.{Ready};
 ghost use Rattle.dayshares.specs.Private.{Held, NextReady, NextHeld};
 
 use crate::lists::{add_list, rest_list};
-use rounds::{Given, Round};
+use rounds::Given;
 use units::{Gigajoules, MOST_ROWS};
 
 // One round; its input is ready, so it is not refused.
@@ -12,14 +12,7 @@ pub fn hold(capacity: u32, weights: &[u32], needs: &[u32], shares: &mut [u32]) -
     requires { Ready capacity weights.now needs.now (length shares.old) }
     ensures { Held capacity weights.now needs.now shares.old result shares.new }
 {
-    let round = rounds::share_round(Gigajoules(capacity), weights, needs, shares);
-    match round {
-        Round::Shared(given) => given,
-        Round::Refused(_) => Given {
-            level: 0,
-            total: Gigajoules(0),
-        },
-    }
+    rounds::share_round(Gigajoules(capacity), weights, needs, shares).unwrap()
 }
 
 // A further round: its needs are what is unmet, and its shares are added to what was given.

@@ -1,4 +1,5 @@
 -- What acceptance says of a day's table.
+use Rattle.std.specs.Prelude.{Ok}
 use mathlib.Core.Path.{◌≡◌}
 use mathlib.Core.Logic.{⊎_elim}
 use mathlib.Core.Bool.{false}
@@ -11,7 +12,6 @@ use lib.Dec.{ltb}
 use lib.ListN.{length}
 use Rattle.columns.specs.Column.{col}
 use Rattle.columns.proofs.Firsts.{first-passed}
-use Rattle.units.specs.declared.refusal.Check.{Check}
 use Rattle.units.specs.Bound.{most_gigajoules, most_rows}
 use Rattle.units.proofs.Checks.{both-accepted, kept, cleared, all-within}
 use Rattle.daytable.specs.Table.{Table, rows}
@@ -35,7 +35,7 @@ pub record Long (T : Table) : Type 0 where
   pub auction_schedule : rows T ≡ length T.auction_schedule
   pub lower_tier_schedule : rows T ≡ length T.lower_tier_schedule
 
-pub long : (T : Table) → lengths_check T ≡ Check.Accepted → Long T
+pub long : (T : Table) → lengths_check T ≡ Ok tt → Long T
 unfolding lengths_check
 long T e =
     let a = both-accepted _ _ e in
@@ -60,7 +60,7 @@ pub record Bounded (T : Table) : Type 0 where
   pub auction_schedule : (i : ℕ) → i < length T.auction_schedule → col T.auction_schedule i ≤ most_gigajoules
   pub lower_tier_schedule : (i : ℕ) → i < length T.lower_tier_schedule → col T.lower_tier_schedule i ≤ most_gigajoules
 
-pub bounded : (T : Table) → bounds_check T ≡ Check.Accepted → Bounded T
+pub bounded : (T : Table) → bounds_check T ≡ Ok tt → Bounded T
 unfolding bounds_check
 bounded T e =
     let a = both-accepted _ _ e in
@@ -93,7 +93,7 @@ pub record Accepting (T : Table) (firm_room auction_room lower_tier_room : ℕ) 
   pub lower_tier_fits : rows T ≤ lower_tier_room
 
 pub accepting : (T : Table) (firm_room auction_room lower_tier_room : ℕ)
-    → table_check T firm_room auction_room lower_tier_room ≡ Check.Accepted → Accepting T firm_room auction_room lower_tier_room
+    → table_check T firm_room auction_room lower_tier_room ≡ Ok tt → Accepting T firm_room auction_room lower_tier_room
 unfolding table_check
 accepting T firm_room auction_room lower_tier_room e =
     let lower_tier_lent = both-accepted _ _ e in

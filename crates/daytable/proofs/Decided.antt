@@ -2,7 +2,6 @@
 -- row is one of 64.
 use mathlib.Core.Path.{◌≡◌, refl}
 use Prim.Native.Nat.{ℕ}
-use Rattle.units.specs.declared.refusal.Check.{Check}
 use Rattle.units.specs.Verdict.{of_check, Decided}
 use Rattle.units.proofs.Checks.{both-accepted}
 use Rattle.units.proofs.Places.{PlacedTo, nowhere, ◌then_if◌, plainly, at_one_of, counted, counted-list}
@@ -10,6 +9,7 @@ use Rattle.units.proofs.Verdicts.{AllNumbered, none, ◌and◌, kept_by, cleared
 use Rattle.daytable.specs.Table.{Table}
 use Rattle.daytable.specs.Acceptance.{lengths_check, bounds_check, table_check}
 use Rattle.daytable.proofs.Accepting.{Long, long, bounded}
+use Rattle.units.specs.Refusals.{Check}
 
 lengths_numbered : (T : Table) → AllNumbered (lengths_check T)
 unfolding lengths_check

@@ -1,16 +1,15 @@
 -- 01, "Refusal numbers": the tests of a day's table, in 01's order.
-use Rattle.std.specs.Prelude.{Bool, false, cond, List, ℕ, leb, ltb, eqb, length}
+use Rattle.std.specs.Prelude.{Bool, false, cond, List, ℕ, leb, ltb, eqb, length, Ok}
 use Rattle.columns.specs.Column.{col}
 use Rattle.columns.specs.First.{first}
-use Rattle.units.specs.declared.refusal.Check.{Check}
 use Rattle.units.specs.Bound.{most_gigajoules, most_rows}
-use Rattle.units.specs.Refusals.{◌then◌, keep, clear, within}
+use Rattle.units.specs.Refusals.{◌then◌, keep, clear, within, Check}
 use Rattle.daytable.specs.Table.{Table, rows}
 
 -- 9: the five lists are as long as one another
 unfoldable pub lengths_check : Table → Check
 lengths_check T =
-    Check.Accepted
+    Ok tt
     then keep (eqb (rows T) (length T.auction_mdq)) 9
     then keep (eqb (rows T) (length T.firm_schedule)) 9
     then keep (eqb (rows T) (length T.auction_schedule)) 9
@@ -19,7 +18,7 @@ lengths_check T =
 -- 3: the capacities, the count, then each list
 unfoldable pub bounds_check : Table → Check
 bounds_check T =
-    Check.Accepted
+    Ok tt
     then keep (leb T.free_flow most_gigajoules) 3
     then keep (leb T.compressor most_gigajoules) 3
     then keep (leb (rows T) most_rows) 3

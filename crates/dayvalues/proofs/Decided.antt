@@ -1,10 +1,10 @@
 -- The tests decide an answer for a column or a row of a day's numbers: number 0 exactly where they accept, zeros where they refuse.
+use Rattle.std.specs.Prelude.{Result}
 use mathlib.Core.Path.{◌≡◌, refl}
 use mathlib.Core.List.{List}
 use Prim.Native.Nat.{ℕ}
 use lib.ListN.{length}
 use Rattle.columns.specs.Column.{col}
-use Rattle.units.specs.declared.refusal.Check.{Check}
 use Rattle.units.specs.Verdict.{of_check, Decided}
 use Rattle.units.proofs.Verdicts.{AllNumbered, none, ◌and◌, kept_by, cleared_by, decided, checked}
 use Rattle.dayformat.specs.declared.form.Tag.{Tag}
@@ -13,13 +13,13 @@ use Rattle.dayformat.specs.declared.layout.Counts.{Counts}
 use Rattle.dayformat.specs.Layout.{count}
 use Rattle.dayformat.proofs.Decided.{counts_numbered}
 use Rattle.dayvalues.specs.declared.column.ShipperColumn.{ShipperColumn}
-use Rattle.dayvalues.specs.declared.column.ColumnRows.{ColumnRows}
-use Rattle.dayvalues.specs.declared.points.PointRow.{PointRow}
-use Rattle.dayvalues.specs.declared.shippers.ShipperRow.{ShipperRow}
 use Rattle.dayvalues.specs.Row.{row_check}
 use Rattle.dayvalues.specs.Column.{ColumnAnswered, column_answer, column_check, column_verdict, place_of}
 use Rattle.dayvalues.specs.Shippers.{shipper_answer, shipper_of, shipper_verdict, shipper_where}
 use Rattle.dayvalues.specs.Points.{point_answer, point_of, point_verdict, point_where}
+use Rattle.units.specs.Refusals.{Check}
+use Rattle.dayvalues.specs.declared.points.Point.{Point}
+use Rattle.units.specs.declared.refusal.Refusal.{Refusal}
 
 -- ---- a column
 column_numbered : (counts : Counts) (numbers : List ℕ) (place room : ℕ) → AllNumbered (column_check counts numbers place room)
@@ -32,7 +32,7 @@ pub column-checked : (counts : Counts) (numbers : List ℕ) (which : ShipperColu
     (of_check found)
 column-checked counts numbers which room = checked (column_numbered counts numbers (place_of which) room)
 
-pub column_decided : {counts : Counts} {numbers : List ℕ} {which : ShipperColumn} {lent after : List ℕ} {rows : ColumnRows}
+pub column_decided : {counts : Counts} {numbers : List ℕ} {which : ShipperColumn} {lent after : List ℕ} {rows : Result ℕ Refusal}
     → ColumnAnswered counts numbers which lent rows after
     → Decided (column_check counts numbers (place_of which) (length lent)) (count counts Tag.Shipper) 0 (column_verdict rows)
 column_decided {counts} {numbers} {which} {lent} A =
@@ -48,11 +48,11 @@ module _ (counts : Counts) (numbers : List ℕ) (row : ℕ) where
       → Decided (row_check counts numbers tag row) tt tt (of_check found)
   row_decided tag = checked (row_numbered tag)
 
-  pub shipper_decided : {answer : ShipperRow} → answer ≡ shipper_answer counts numbers row
+  pub shipper_decided : {answer : Result ℕ Refusal} → answer ≡ shipper_answer counts numbers row
       → Decided (row_check counts numbers Tag.Shipper row) (shipper_of counts (col numbers) row) 0 (shipper_verdict answer)
   shipper_decided = decided shipper_where shipper_verdict refl (λ refusal. refl) (row_numbered Tag.Shipper)
 
-  pub point_decided : {answer : PointRow} → answer ≡ point_answer counts numbers row
+  pub point_decided : {answer : Result Point Refusal} → answer ≡ point_answer counts numbers row
       → Decided (row_check counts numbers Tag.Point row) (point_of counts (col numbers) row)
       (record { side = 0; point = 0; capacity = record { 0 = 0 } }) (point_verdict answer)
   point_decided = decided point_where point_verdict refl (λ refusal. refl) (row_numbered Tag.Point)

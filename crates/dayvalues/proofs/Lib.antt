@@ -2,9 +2,7 @@ pub mod Bounds
 pub mod Rows
 pub mod OneKey
 pub mod Accepting
-pub mod Answers
 pub mod Decided
 pub mod Determined
-pub mod Examining
 pub mod Sounds
 pub mod Earlier

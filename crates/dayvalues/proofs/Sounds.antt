@@ -1,5 +1,6 @@
 -- A sound day's numbers and counts are what every routine on them asks first, its rows may be had, their keys rise, and each number is
 -- within the bound of its kind.
+use Rattle.std.specs.Prelude.{Ok}
 use mathlib.Core.Path.{◌≡◌, refl}
 use mathlib.Core.Bool.{true}
 use mathlib.Core.List.{List}
@@ -9,7 +10,6 @@ use borrow.Author.Tests.{eq-eqb, lt-ltb}
 use lib.Dec.{ltb, eqb}
 use lib.ListN.{length}
 use Rattle.columns.specs.Column.{col}
-use Rattle.units.specs.declared.refusal.Check.{Check}
 use Rattle.units.specs.Refusals.{◌then◌, keep}
 use Rattle.units.proofs.Checks.{accepts-both, accepts-kept, accepts-clear}
 use Rattle.dayformat.specs.declared.day.Day.{Day}
@@ -29,7 +29,7 @@ use Rattle.dayvalues.specs.Row.{number_at, beyond_row, row_check}
 module _ (day : Day) (numbers : List ℕ) (S : Sound day numbers) where
   -- 9, then the counts' 3
   pub counted :
-      (Check.Accepted then keep (eqb (length numbers) (numbers_in day.counts)) 9 then counts_check day.counts) ≡ Check.Accepted
+      (Ok tt then keep (eqb (length numbers) (numbers_in day.counts)) 9 then counts_check day.counts) ≡ Ok tt
   counted = accepts-both (accepts-both refl (accepts-kept 9 (eq-eqb _ _ S.long))) (counts_accept day.counts S.few)
 
   module _ (tag : Tag) (t : HasTable tag) (row : ℕ) (l : row < count day.counts tag) where
@@ -40,7 +40,7 @@ module _ (day : Day) (numbers : List ℕ) (S : Sound day numbers) where
     unfolding passes
     inside = both _ _ (both (ltb row (form tag).most) _ (S.passes tag t Bounds row l)).1
 
-    pub row-accepts : row_check day.counts numbers tag row ≡ Check.Accepted
+    pub row-accepts : row_check day.counts numbers tag row ≡ Ok tt
     unfolding row_check beyond_row
     row-accepts =
         accepts-both (accepts-both counted (accepts-kept 3 (lt-ltb row _ l)))

@@ -1,9 +1,8 @@
 -- A row of a day's table: its numbers, and its tests.
-use Rattle.std.specs.Prelude.{Bool, cond, not, List, ℕ, ◌+◌, ltb, eqb, length}
+use Rattle.std.specs.Prelude.{Bool, cond, not, List, ℕ, ◌+◌, ltb, eqb, length, Ok}
 use Rattle.columns.specs.Column.{col}
 use Rattle.columns.specs.First.{first}
-use Rattle.units.specs.declared.refusal.Check.{Check}
-use Rattle.units.specs.Refusals.{◌then◌, keep, clear}
+use Rattle.units.specs.Refusals.{◌then◌, keep, clear, Check}
 use Rattle.dayformat.specs.declared.form.Tag.{Tag}
 use Rattle.dayformat.specs.declared.layout.Counts.{Counts}
 use Rattle.dayformat.specs.Format.{body, column_in}
@@ -30,7 +29,7 @@ row_beginning counts numbers tag number = first (count counts tag) (λ row. eqb 
 -- refused: 9 not as many numbers as the counts say; 3 a count, a row beyond its count, one of its numbers
 unfoldable pub row_check : Counts → List ℕ → Tag → ℕ → Check
 row_check counts numbers tag row =
-    Check.Accepted
+    Ok tt
     then keep (eqb (length numbers) (numbers_in counts)) 9
     then counts_check counts
     then keep (ltb row (count counts tag)) 3

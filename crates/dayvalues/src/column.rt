@@ -6,7 +6,7 @@ ghost use Rattle.dayvalues.specs.Private.{Fillable};
 
 use crate::row::{is_beyond, number_at};
 use dayformat::{Counts, Tag, numbers_of};
-use units::{Check, Refusal};
+use units::{Refusal, clear, keep};
 
 // In tag 2's order.
 #[derive(Clone, Copy)]
@@ -16,13 +16,6 @@ pub enum ShipperColumn {
     FirmSchedule,
     AuctionSchedule,
     LowerTierSchedule,
-}
-
-// How many rows a column has, or why it is refused.
-#[derive(Clone, Copy)]
-pub enum ColumnRows {
-    Rows(usize),
-    Refused(Refusal),
 }
 
 // Where a row has it.
@@ -54,23 +47,19 @@ fn first_beyond(counts: Counts, numbers: &[usize], place: u32) -> u32
 }
 
 // The first test that a column fails, with room for so many rows. The rows are looked at where there are few.
-fn examine_column(counts: Counts, numbers: &[usize], place: u32, room: usize) -> Check
+#[tactic(auto, unfolding(crate::specs::Column::column_check, units::specs::Refusals::first_refusal))]
+fn examine_column(counts: Counts, numbers: &[usize], place: u32, room: usize) -> Result<(), Refusal>
     ensures { result ≡ column_check counts numbers.now place room }
 {
     let rows = counts.shippers as usize;
-    let counted = Check::Accepted
-        .keep(numbers.len() == numbers_of(counts), 9)
-        .then(counts.check());
-    match counted {
-        Check::Refused(refusal) => Check::Refused(refusal),
-        Check::Accepted => Check::Accepted
-            .clear(rows, first_beyond(counts, numbers, place) as usize, 3)
-            .keep(rows <= room, 7),
-    }
+    keep(numbers.len() == numbers_of(counts), 9)?;
+    counts.check()?;
+    clear(rows, first_beyond(counts, numbers, place) as usize, 3)?;
+    keep(rows <= room, 7)
 }
 
 // The first test that a column fails, with room for so many rows.
-pub fn check_column(counts: Counts, numbers: &[usize], which: ShipperColumn, room: usize) -> Check
+pub fn check_column(counts: Counts, numbers: &[usize], which: ShipperColumn, room: usize) -> Result<(), Refusal>
     ensures { result ≡ column_check counts numbers.now (place_of which) room }
 {
     examine_column(counts, numbers, place_of(which), room)
@@ -93,16 +82,11 @@ pub fn shipper_column(
     numbers: &[usize],
     which: ShipperColumn,
     out: &mut [u32],
-) -> ColumnRows
+) -> Result<usize, Refusal>
     ensures { ColumnAnswered counts numbers.now which out.old result out.new }
 {
     let place = place_of(which);
-    let found = examine_column(counts, numbers, place, out.len());
-    match found {
-        Check::Refused(refusal) => ColumnRows::Refused(refusal),
-        Check::Accepted => {
-            fill_column(counts, numbers, place, out);
-            ColumnRows::Rows(counts.shippers as usize)
-        }
-    }
+    examine_column(counts, numbers, place, out.len())?;
+    fill_column(counts, numbers, place, out);
+    Ok(counts.shippers as usize)
 }

@@ -6,7 +6,7 @@ mod points;
 mod row;
 mod shippers;
 
-pub use column::{ColumnRows, ShipperColumn, check_column, shipper_column};
-pub use points::{Point, PointRow, point_at};
+pub use column::{ShipperColumn, check_column, shipper_column};
+pub use points::{Point, point_at};
 pub use row::{check_row, number_at, row_beginning};
-pub use shippers::{ShipperRow, shipper_at};
+pub use shippers::shipper_at;

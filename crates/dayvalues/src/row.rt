@@ -5,7 +5,7 @@ ghost use Rattle.dayvalues.specs.Row.{number_at, beyond, beyond_row, row_beginni
 
 use dayformat::{Counts, Tag, column_at, count_of, form_of, numbers_of, row_place};
 use dayrows::number_of;
-use units::Check;
+use units::{Refusal, clear, keep};
 
 // The number at a place of a row, 0 past the list.
 pub fn number_at(counts: Counts, numbers: &[usize], tag: Tag, row: u32, place: u32) -> usize
@@ -60,14 +60,14 @@ pub fn row_beginning(counts: Counts, numbers: &[usize], tag: Tag, number: u32) -
 }
 
 // The first test that a row fails.
-pub fn check_row(counts: Counts, numbers: &[usize], tag: Tag, row: u32) -> Check
+#[tactic(auto, unfolding(crate::specs::Row::row_check, units::specs::Refusals::first_refusal))]
+pub fn check_row(counts: Counts, numbers: &[usize], tag: Tag, row: u32) -> Result<(), Refusal>
     ensures { result ≡ row_check counts numbers.now tag row }
 {
     let rows = count_of(counts, tag);
     let beyond = beyond_row(counts, numbers, tag, row);
-    Check::Accepted
-        .keep(numbers.len() == numbers_of(counts), 9)
-        .then(counts.check())
-        .keep(row < rows, 3)
-        .clear(rows as usize, beyond as usize, 3)
+    keep(numbers.len() == numbers_of(counts), 9)?;
+    counts.check()?;
+    keep(row < rows, 3)?;
+    clear(rows as usize, beyond as usize, 3)
 }

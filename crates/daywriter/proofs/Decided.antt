@@ -1,4 +1,5 @@
 -- The tests decide an answer of `write_day`: number 0 exactly where they accept, with the file's size; else zero.
+use Rattle.std.specs.Prelude.{Result}
 use mathlib.Core.Path.{refl}
 use mathlib.Core.List.{List}
 use Prim.Native.Nat.{ℕ}
@@ -12,9 +13,9 @@ use Rattle.dayformat.specs.Format.{many_tables}
 use Rattle.dayformat.specs.Layout.{file_size}
 use Rattle.dayformat.proofs.Decided.{counts_numbered}
 use Rattle.dayrows.specs.declared.Test.{Test}
-use Rattle.daywriter.specs.declared.Written.{Written}
 use Rattle.daywriter.specs.Acceptance.{singles_check, tables_check, rows_check, sound, written_check}
 use Rattle.daywriter.specs.Answer.{written_answer, written_verdict, WrittenAnswered}
+use Rattle.units.specs.declared.refusal.Refusal.{Refusal}
 
 singles_numbered : (day : Day) → AllNumbered (singles_check day)
 unfolding singles_check
@@ -36,7 +37,7 @@ unfolding written_check sound
 written_numbered day numbers room =
     none and kept_by _ 9 tt tt and singles_numbered day and rows_numbered day.counts _ and kept_by _ 7 tt tt
 
-pub written_decided : {day : Day} {numbers lent after : List ℕ} {written : Written} → WrittenAnswered day numbers lent after written
+pub written_decided : {day : Day} {numbers lent after : List ℕ} {written : Result ℕ Refusal} → WrittenAnswered day numbers lent after written
     → Decided (written_check day numbers (length lent)) (file_size day.counts) 0 (written_verdict written)
 written_decided {day} {numbers} {lent} A =
     decided written_answer written_verdict refl (λ refusal. refl) (written_numbered day numbers (length lent)) A.answers

@@ -1,9 +1,8 @@
 -- 01, "Refusal numbers": the tests of a day, number by number over all tables.
-use Rattle.std.specs.Prelude.{List, ℕ, leb, eqb, length}
+use Rattle.std.specs.Prelude.{List, ℕ, leb, eqb, length, Ok}
 use Rattle.columns.specs.Column.{col}
-use Rattle.units.specs.declared.refusal.Check.{Check}
 use Rattle.units.specs.Bound.{most_gigajoules}
-use Rattle.units.specs.Refusals.{◌then◌, keep, clear}
+use Rattle.units.specs.Refusals.{◌then◌, keep, clear, Check}
 use Rattle.units.specs.Each.{each}
 use Rattle.dayformat.specs.declared.day.Day.{Day}
 use Rattle.dayformat.specs.declared.layout.Counts.{Counts}
@@ -17,7 +16,7 @@ use Rattle.dayrows.specs.Test.{first_failing}
 -- 3: the head, then the counts
 unfoldable pub singles_check : Day → Check
 singles_check day =
-    Check.Accepted
+    Ok tt
     then keep (leb day.head.free_flow.0 most_gigajoules) 3
     then keep (leb day.head.compressor.0 most_gigajoules) 3
     then counts_check day.counts
@@ -30,7 +29,7 @@ tables_check test number counts numbers =
 -- number by number over all tables
 unfoldable pub rows_check : Counts → (ℕ → ℕ) → Check
 rows_check counts numbers =
-    Check.Accepted
+    Ok tt
     then tables_check Test.Bounds 3 counts numbers
     then tables_check Test.Key 5 counts numbers
     then tables_check Test.Mdq 4 counts numbers
@@ -38,7 +37,7 @@ rows_check counts numbers =
 -- what the writer accepts, whatever room it is lent
 unfoldable pub sound : Day → List ℕ → Check
 sound day numbers =
-    Check.Accepted
+    Ok tt
     then keep (eqb (length numbers) (numbers_in day.counts)) 9
     then singles_check day
     then rows_check day.counts (col numbers)

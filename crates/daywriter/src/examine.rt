@@ -5,55 +5,49 @@ ghost use Rattle.daywriter.specs.Acceptance.{singles_check, tables_check, rows_c
 
 use dayformat::{Counts, Day, TABLES, count_of, numbers_of, tag_at};
 use dayrows::{Test, first_failing_row};
-use units::{Check, MOST_GIGAJOULES};
+use units::{MOST_GIGAJOULES, Refusal, clear, keep};
 
 // 9, 3, 5 and 4. The rows are looked at where the counts are within their bounds.
-pub fn examine(day: Day, numbers: &[usize]) -> Check
+#[tactic(auto, unfolding(crate::specs::Acceptance::sound, units::specs::Refusals::first_refusal))]
+pub fn examine(day: Day, numbers: &[usize]) -> Result<(), Refusal>
     ensures { result ≡ sound day numbers.now }
 {
     let counts = day.counts;
-    let singles = Check::Accepted
-        .keep(numbers.len() == numbers_of(counts), 9)
-        .then(examine_singles(day));
-    match singles {
-        Check::Refused(refusal) => Check::Refused(refusal),
-        Check::Accepted => examine_rows(counts, numbers),
-    }
+    keep(numbers.len() == numbers_of(counts), 9)?;
+    examine_singles(day)?;
+    examine_rows(counts, numbers)
 }
 
 // 3, 5 and 4 of the rows, of which there are then few.
-fn examine_rows(counts: Counts, numbers: &[usize]) -> Check
+#[tactic(auto, unfolding(crate::specs::Acceptance::rows_check, units::specs::Refusals::first_refusal))]
+fn examine_rows(counts: Counts, numbers: &[usize]) -> Result<(), Refusal>
     ensures { result ≡ rows_check counts (col numbers.now) }
 {
-    Check::Accepted
-        .then(examine_tables(Test::Bounds, 3, counts, numbers))
-        .then(examine_tables(Test::Key, 5, counts, numbers))
-        .then(examine_tables(Test::Mdq, 4, counts, numbers))
+    examine_tables(Test::Bounds, 3, counts, numbers)?;
+    examine_tables(Test::Key, 5, counts, numbers)?;
+    examine_tables(Test::Mdq, 4, counts, numbers)
 }
 
 // 3: the head, then the counts.
-fn examine_singles(day: Day) -> Check
+#[tactic(auto, unfolding(crate::specs::Acceptance::singles_check, units::specs::Refusals::first_refusal))]
+fn examine_singles(day: Day) -> Result<(), Refusal>
     ensures { result ≡ singles_check day }
 {
     let head = day.head;
     let counts = day.counts;
-    Check::Accepted
-        .keep(head.free_flow.0 <= MOST_GIGAJOULES.0, 3)
-        .keep(head.compressor.0 <= MOST_GIGAJOULES.0, 3)
-        .then(counts.check())
+    keep(head.free_flow.0 <= MOST_GIGAJOULES.0, 3)?;
+    keep(head.compressor.0 <= MOST_GIGAJOULES.0, 3)?;
+    counts.check()
 }
 
 // One test over the tables in file order.
-fn examine_tables(test: Test, number: u8, counts: Counts, numbers: &[usize]) -> Check
+fn examine_tables(test: Test, number: u8, counts: Counts, numbers: &[usize]) -> Result<(), Refusal>
     ensures { result ≡ tables_check test number counts (col numbers.now) }
 {
-    let mut found = Check::Accepted;
-    let mut place = 0;
-    while place < TABLES {
+    for place in 0..TABLES {
         let tag = tag_at(place);
         let row = first_failing_row(test, counts, numbers, tag);
-        found = found.clear(count_of(counts, tag) as usize, row as usize, number);
-        place += 1;
+        clear(count_of(counts, tag) as usize, row as usize, number)?;
     }
-    found
+    Ok(())
 }

@@ -9,26 +9,16 @@ ghost use Rattle.daywriter.specs.Answer.{WrittenAnswered};
 use crate::examine::examine;
 use crate::put::put_day;
 use dayformat::{Day, file_size};
-use units::{Check, Refusal};
-
-// How many bytes the day's file has, or why the day is refused.
-#[derive(Clone, Copy)]
-pub enum Written {
-    Refused(Refusal),
-    Bytes(usize),
-}
+use units::{Refusal, keep};
 
 // Writes a day's file to the front of a lent block.
-pub fn write_day(day: Day, numbers: &[usize], block: &mut [u8]) -> Written
+#[tactic(auto, unfolding(crate::specs::Acceptance::written_check, units::specs::Refusals::first_refusal))]
+pub fn write_day(day: Day, numbers: &[usize], block: &mut [u8]) -> Result<usize, Refusal>
     ensures { WrittenAnswered day numbers.now block.old block.new result }
 {
     let size = file_size(day.counts);
-    let found = examine(day, numbers).keep(size <= block.len(), 7);
-    match found {
-        Check::Refused(refusal) => Written::Refused(refusal),
-        Check::Accepted => {
-            put_day(day, numbers, block);
-            Written::Bytes(size)
-        }
-    }
+    examine(day, numbers)?;
+    keep(size <= block.len(), 7)?;
+    put_day(day, numbers, block);
+    Ok(size)
 }

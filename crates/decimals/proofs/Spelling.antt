@@ -1,4 +1,5 @@
 -- What the first digits of a word spell, up to the first number beyond a bound.
+use Rattle.std.specs.Prelude.{Ok}
 use mathlib.Core.Path.{◌≡◌, refl, sym, ◌∙◌}
 use mathlib.Core.List.{List, [], ◌∷◌}
 use Prim.Native.Nat.{ℕ, zero, suc, ◌+◌, ◌-◌, ◌*◌, ◌≤◌, ◌<◌, min}
@@ -10,7 +11,6 @@ use lib.Dec.{leb}
 use lib.ListN.{length, take}
 use lib.Seq.{take_all}
 use Rattle.columns.specs.Column.{col}
-use Rattle.units.specs.declared.refusal.Check.{Check}
 use Rattle.units.proofs.Checks.{both-accepted, kept}
 use Rattle.text.specs.Text.{value_after, value}
 use Rattle.decimals.specs.Word.{word_check}
@@ -68,6 +68,6 @@ module _ (spelled most : ℕ) {number : ℕ} (is : number ≡ min spelled (most 
   pub same_number : spelled ≤ most → number ≡ spelled
   same_number h = omega (arith, is)
 
-pub spells_within : (word : List ℕ) (most : ℕ) → word_check word most ≡ Check.Accepted → value word ≤ most
+pub spells_within : (word : List ℕ) (most : ℕ) → word_check word most ≡ Ok tt → value word ≤ most
 unfolding word_check
 spells_within word most e = leb-true _ _ (kept _ _ (both-accepted _ _ e).1)

@@ -8,19 +8,12 @@ ghost use Rattle.text.specs.Text.{value};
 ghost use Rattle.decimals.specs.Word.{is_digit, decimal_of};
 
 use columns::lesser;
-use units::{Check, Refusal};
+use units::{Refusal, keep};
 
 // The byte of 0, and that of 9.
 const ZERO: u8 = 48;
 
 const NINE: u8 = 57;
-
-// The number, or why the word is refused.
-#[derive(Clone, Copy)]
-pub enum Decimal {
-    Number(u32),
-    Refused(Refusal),
-}
 
 fn is_digit(byte: u8) -> bool
     ensures { result ≡ is_digit byte }
@@ -70,16 +63,13 @@ fn value_up_to(word: &[u8], most: u32) -> usize
 }
 
 // 3 unless the word is digits alone, at least one, that spell a number within the bound.
-pub fn decimal_of(word: &[u8], most: u32) -> Decimal
+#[tactic(auto, unfolding(crate::specs::Word::word_check, units::specs::Refusals::first_refusal))]
+pub fn decimal_of(word: &[u8], most: u32) -> Result<u32, Refusal>
     ensures { result ≡ decimal_of word.now most }
 {
     let number = value_up_to(word, most);
-    let found = Check::Accepted
-        .keep(0 < word.len(), 3)
-        .keep(word.len() <= first_other(word), 3)
-        .keep(number <= most as usize, 3);
-    match found {
-        Check::Refused(refusal) => Decimal::Refused(refusal),
-        Check::Accepted => Decimal::Number(number as u32),
-    }
+    keep(0 < word.len(), 3)?;
+    keep(word.len() <= first_other(word), 3)?;
+    keep(number <= most as usize, 3)?;
+    Ok(number as u32)
 }

@@ -1,4 +1,5 @@
 -- Of a sound day's entries of one side, from a row on, a point's part is the fields of all its entries.
+use Rattle.std.specs.Prelude.{Ok}
 use mathlib.Core.Path.{◌≡◌, ap, ap₂, sym, ◌∙◌}
 use mathlib.Core.Bool.{Bool, true, false, not, true≢false}
 use mathlib.Core.List.{List}
@@ -10,7 +11,6 @@ use lib.ListN.{length, take, drop}
 use Rattle.columns.specs.Column.{col, joined}
 use Rattle.columns.specs.First.{first}
 use Rattle.columns.proofs.Firsts.{first-same, first_le}
-use Rattle.units.specs.declared.refusal.Check.TheVariants.{Accepted}
 use Rattle.dayformat.specs.declared.day.Day.{Day}
 use Rattle.dayformat.specs.declared.form.Tag.TheVariants.{Entry}
 use Rattle.dayformat.specs.Format.{field_size}
@@ -81,7 +81,7 @@ module _ (day : Day) (numbers : List ℕ) (S : Sound day numbers) where
         (rows_are day numbers S from many side inside sided) first_is
         ∙ first-same (many - start) _ _ (λ more l. ap not (asks-point (start + more) (omega (arith, l))))
 
-    module _ (accepted : list_check list side point ≡ Accepted) where
+    module _ (accepted : list_check list side point ≡ Ok tt) where
       start_is : start_in list side point ≡ start * field_size Entry
       unfolding start_in
       start_is = rw accepted (ap (λ row. row * field_size Entry) first_is)

@@ -1,4 +1,5 @@
 -- A sound day's entries of one side, from a row on, make a list that is accepted, whose rows are the day's.
+use Rattle.std.specs.Prelude.{Ok}
 use mathlib.Core.Path.{◌≡◌, refl, ap, sym, ◌∙◌}
 use mathlib.Core.Bool.{true, false, cond, not}
 use mathlib.Core.List.{List, [], append-nil}
@@ -13,7 +14,6 @@ use Rattle.columns.specs.Sum.{sum}
 use Rattle.columns.proofs.Firsts.{first-same, first-none}
 use Rattle.columns.proofs.Lists.{length-listed, col-listed}
 use Rattle.columns.proofs.Joined.{length-joined, col-joined}
-use Rattle.units.specs.declared.refusal.Check.TheVariants.{Accepted}
 use Rattle.units.proofs.Checks.{accepts-both, accepts-kept}
 use Rattle.dayformat.specs.declared.day.Day.{Day}
 use Rattle.dayformat.specs.declared.form.Tag.TheVariants.{Entry}
@@ -160,7 +160,7 @@ module _ (day : Day) (numbers : List ℕ) (S : Sound day numbers) (from many sid
         ap (λ run. (ended list (walk_after unread Entry run)).fault) run_is
         ∙ rw (le-leb (length list) (place_of F many) (le_of_eq list-long))
 
-    pub list-accepted : (point : ℕ) → side ≤ 1 → 0 < point → list_check list side point ≡ Accepted
+    pub list-accepted : (point : ℕ) → side ≤ 1 → 0 < point → list_check list side point ≡ Ok tt
     unfolding list_check
     list-accepted point h l =
         accepts-both

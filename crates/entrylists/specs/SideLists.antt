@@ -1,8 +1,7 @@
 -- 01, "An hour at a point": a day's tag 4 fields as a receipt list and a delivery list.
-use Rattle.std.specs.Prelude.{◌≡◌, true, List, ℕ, ◌+◌, ◌*◌, ◌/◌, ◌≤◌, ◌<◌, eqb, length, take, drop}
+use Rattle.std.specs.Prelude.{◌≡◌, true, List, ℕ, ◌+◌, ◌*◌, ◌/◌, ◌≤◌, ◌<◌, eqb, length, take, drop, Ok}
 use Rattle.columns.specs.Column.{col}
 use Rattle.columns.specs.First.{first}
-use Rattle.units.specs.declared.refusal.Check.TheVariants.{Accepted}
 use Rattle.dayformat.specs.declared.form.Tag.TheVariants.{Entry}
 use Rattle.dayformat.specs.declared.layout.Counts.{Counts}
 use Rattle.dayformat.specs.Format.{header, field_size}
@@ -31,7 +30,7 @@ entry_bytes counts file = take (run_size counts Entry) (drop (entries_start coun
 
 -- the list asked for is accepted, its part for a point is the fields of the day's entries of that point, and these are all of them
 pub record Parted (counts : Counts) (numbers : ℕ → ℕ) (list : List ℕ) (side point : ℕ) : Type 0 where
-  pub accepted : entries_check (receipt_list list) (delivery_list list) side point ≡ Accepted
+  pub accepted : entries_check (receipt_list list) (delivery_list list) side point ≡ Ok tt
   pub part :
       take (part_long (receipt_list list) (delivery_list list) side point)
       (drop (part_start (receipt_list list) (delivery_list list) side point)

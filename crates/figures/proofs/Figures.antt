@@ -3,7 +3,7 @@ use Rattle.columns.specs.Column.{listed}
 use Rattle.columns.specs.Sum.{sum}
 use Rattle.columns.specs.First.{first_from}
 use Rattle.sharing.specs.Chain.{after}
-use Rattle.units.specs.Refusals.{◌then◌, keep, clear}
+use Rattle.units.specs.Refusals.{◌then◌, keep, clear, first_refusal}
 use Rattle.excesses.specs.TwelveHourly.{period_limit}
 use Rattle.tariff.specs.HalfUp.{half_up}
 use Rattle.tariff.specs.Charges.{overrun_check, variation_check}
@@ -33,7 +33,7 @@ use Rattle.figures.proofs.Levels.{
 }
 
 pub figures : Figures
-unfolding defined said listed sum first_from ◌then◌ keep clear
+unfolding defined said listed sum first_from first_refusal keep clear
     lengths_check bounds_check table_check given_one given_two given_firm after class_level class_given
     hour_check stranded share fuel_check
     period_limit mdqs_check side_check sides_check hours_check day_check half_up overrun_check variation_check escalation_check

@@ -1,15 +1,16 @@
 -- The whole answers of `share_day` and `share_hour` to 01's figures: what the definitions give, each lent list as long as the rows.
-use Rattle.std.specs.Prelude.{List, ℕ, length, replicate}
-use Rattle.units.specs.declared.refusal.Check.{Check}
-use Rattle.pointshares.specs.declared.Hour.{Hour}
+use Rattle.std.specs.Prelude.{List, ℕ, length, replicate, Result, Ok}
 use Rattle.pointshares.specs.Answer.{hour_afterwards, hour_answer, hour_check, hour_given}
 use Rattle.daytable.specs.Table.{Table, rows}
 use Rattle.daytable.specs.Acceptance.{table_check}
 use Rattle.dayshares.specs.declared.Levels.{Levels}
-use Rattle.dayshares.specs.declared.Day.{Day}
 use Rattle.dayshares.specs.Given.{firm_given, auction_given, lower_tier_given}
 use Rattle.dayshares.specs.Answer.{day_shares, shares_answer, class_afterwards}
 use Rattle.figures.specs.Units.{gigajoules}
+use Rattle.units.specs.Refusals.{Check}
+use Rattle.units.specs.declared.Megajoules.{Megajoules}
+use Rattle.units.specs.declared.refusal.Refusal.{Refusal}
+use Rattle.dayshares.specs.declared.Shares.{Shares}
 
 -- ones are lent, so that a zero written shows
 abbrev lent : ℕ → List ℕ
@@ -18,7 +19,7 @@ lent rows = replicate rows 1
 abbrev found : Table → Check
 found T = table_check T (rows T) (rows T) (rows T)
 
-abbrev pub share_day : Table → Day
+abbrev pub share_day : Table → Result Shares Refusal
 share_day T = shares_answer (found T) (day_shares T)
 
 -- the lists of firm, auction and lower tier
@@ -35,9 +36,9 @@ levels one two three auction lower_tier =
     record { one = one; two = two; three = three; auction = auction; lower_tier = lower_tier }
 
 -- a day shared at them: what firm, auction and lower tier are given, and LEFT
-abbrev pub shared : Levels → ℕ → ℕ → ℕ → ℕ → Day
+abbrev pub shared : Levels → ℕ → ℕ → ℕ → ℕ → Result Shares Refusal
 shared levels firm auction lower_tier left =
-    Day.Shared
+    Ok
     (record {
       levels = levels;
       firm = gigajoules firm;
@@ -47,7 +48,7 @@ shared levels firm auction lower_tier left =
     })
 
 -- H, then the entitlements and firm MDQs of the shippers
-abbrev pub share_hour : ℕ → List ℕ → List ℕ → Hour
+abbrev pub share_hour : ℕ → List ℕ → List ℕ → Result Megajoules Refusal
 share_hour h entitlements mdqs =
     hour_answer (hour_check h entitlements mdqs (length entitlements)) (hour_given h entitlements mdqs)
 

@@ -1,19 +1,14 @@
 -- 01, "Figures to check against": every figure marked *, in 01's order and words, under one claim.
-use Rattle.std.specs.Prelude.{◌≡◌, List, [], ◌∷◌, ℕ}
+use Rattle.std.specs.Prelude.{◌≡◌, List, [], ◌∷◌, ℕ, Ok}
 use Rattle.columns.specs.Column.{listed}
 use Rattle.excesses.specs.Hourly.{hour_excess}
 use Rattle.excesses.specs.TwelveHourly.{period_limit}
 use Rattle.tariff.specs.declared.charges.Change.{Change}
-use Rattle.tariff.specs.declared.charges.Charge.TheVariants.{Charged}
-use Rattle.tariff.specs.declared.escalation.Escalation.TheVariants.{Escalated}
 use Rattle.tariff.specs.Rates.{overrun_rate, variation_rate}
 use Rattle.tariff.specs.Charges.{overrun_charge, variation_charge}
 use Rattle.tariff.specs.Escalation.{escalation}
-use Rattle.pointshares.specs.declared.Hour.TheVariants.{Shared}
 use Rattle.daytable.specs.Table.{rows}
-use Rattle.usegas.specs.declared.fuel.ImbalanceFuel.TheVariants.{Supplied}
 use Rattle.usegas.specs.Fuel.{imbalance_fuel}
-use Rattle.overruns.specs.declared.day.DayOverruns.TheVariants.{Over}
 use Rattle.overruns.specs.Day.{with_greatest, day_answer, day_verdict}
 use Rattle.dayshares.specs.Firm.{given_one, firm}
 use Rattle.figures.specs.Line.{Line, ◌is◌, defined, said}
@@ -46,9 +41,9 @@ table =
     ∷ share_day third_day is shared (levels 1_000_000_000_000 1_000_000_000_000 1_000_000_000_000 753_333 0) 100 300 0 0
     ∷ day_lists third_day is (100 ∷ 0 ∷ [], 75 ∷ 225 ∷ [], 0 ∷ 0 ∷ [])
     -- H 9000, RE/MDQ 4000/300, 2000/100: 6250, 2750. H 5000, same: 3333, 1666.
-    ∷ share_hour 9_000 entitlements mdqs is Shared (megajoules 9_000)
+    ∷ share_hour 9_000 entitlements mdqs is Ok (megajoules 9_000)
     ∷ hour_list 9_000 entitlements mdqs is (6_250 ∷ 2_750 ∷ [])
-    ∷ share_hour 5_000 entitlements mdqs is Shared (megajoules 4_999)
+    ∷ share_hour 5_000 entitlements mdqs is Ok (megajoules 4_999)
     ∷ hour_list 5_000 entitlements mdqs is (3_333 ∷ 1_666 ∷ [])
     -- M 1000: an hour of 50,000 delivered, no excess; 50,001, 1 MJ.
     ∷ hour_excess 1_000 50_000 0 is 0
@@ -57,15 +52,15 @@ table =
     ∷ period_limit 1_000 2_000 5 is 799_000
     -- P and M 1000, 48,000 delivered in all 35 hours, nothing received, forward delivery 1,152, no backhaul:
     -- 288,000 MJ twelve-hourly, others zero, 103,392 cents.
-    ∷ day_answer steady_day is Over (with_greatest 0 288_000 0 0)
-    ∷ overrun_charge overrun_rate (day_verdict (day_answer steady_day)).figures.greatest is Charged (cents 103_392)
+    ∷ day_answer steady_day is Ok (with_greatest 0 288_000 0 0)
+    ∷ overrun_charge overrun_rate (day_verdict (day_answer steady_day)).figures.greatest is Ok (cents 103_392)
     -- MDQ 1000: PI 80,000 and 80,099 give 0, 80,100 gives 1.
-    ∷ imbalance_fuel (imbalance 80_000) (imbalance 0) (gigajoules 1_000) is Supplied (megajoules 0)
-    ∷ imbalance_fuel (imbalance 80_099) (imbalance 0) (gigajoules 1_000) is Supplied (megajoules 0)
-    ∷ imbalance_fuel (imbalance 80_100) (imbalance 0) (gigajoules 1_000) is Supplied (megajoules 1)
+    ∷ imbalance_fuel (imbalance 80_000) (imbalance 0) (gigajoules 1_000) is Ok (megajoules 0)
+    ∷ imbalance_fuel (imbalance 80_099) (imbalance 0) (gigajoules 1_000) is Ok (megajoules 0)
+    ∷ imbalance_fuel (imbalance 80_100) (imbalance 0) (gigajoules 1_000) is Ok (megajoules 1)
     -- Variation 100 GJ up: 408 cents. 359000 from CPI 1143 to 1163: 365282.
-    ∷ variation_charge variation_rate up up is Charged (cents 408)
-    ∷ escalation (rate 359_000) 1_163 1_143 is Escalated (rate 365_282)
+    ∷ variation_charge variation_rate up up is Ok (cents 408)
+    ∷ escalation (rate 359_000) 1_163 1_143 is Ok (rate 365_282)
     ∷ []
 
 -- the claim: line by line, what the definitions give is what 01 says

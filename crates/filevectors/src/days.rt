@@ -3,9 +3,7 @@ use crate::answers::{put_figures, put_refusal};
 use crate::case::{bytes, past, past_bytes, wide, word};
 use crate::lent::{LENT_BYTE, LENT_NUMBER, MOST_BYTES, MOST_NUMBERS, put_block, put_numbers};
 use columns::lesser;
-use dayfile::Reading;
 use dayformat::{Counts, Day, Head};
-use daywriter::Written;
 use std::io::{Result, Write};
 use units::Gigajoules;
 
@@ -15,8 +13,8 @@ pub fn answer_reading<W: Write>(out: &mut W, case: &[u8]) -> Result<()> {
     let reading = dayfile::read_day(bytes(past(case, 1)), &mut lent[0..room]);
     out.write_all(b"read_day")?;
     match reading {
-        Reading::Refused(refusal) => put_refusal(out, refusal)?,
-        Reading::Read(day) => put_day(out, day)?,
+        Err(refusal) => put_refusal(out, refusal)?,
+        Ok(day) => put_day(out, day)?,
     }
     put_numbers(out, &lent, room)
 }
@@ -51,8 +49,8 @@ pub fn answer_writing<W: Write>(out: &mut W, case: &[u8]) -> Result<()> {
     let written = daywriter::write_day(day_of(case), &numbers[0..count], &mut lent[0..room]);
     out.write_all(b"write_day")?;
     match written {
-        Written::Refused(refusal) => put_refusal(out, refusal)?,
-        Written::Bytes(size) => {
+        Err(refusal) => put_refusal(out, refusal)?,
+        Ok(size) => {
             put_figures(out, &[0, 0, size as u64])?;
         }
     }

@@ -3,7 +3,7 @@ use crate::answers::{put_bytes, put_figures, put_refusal};
 use crate::case::{bytes, past, past_bytes, word};
 use columns::lesser;
 use std::io::{Result, Write};
-use units::Check;
+use units::Refusal;
 
 fn side_of(case: &[u8]) -> u8 {
     lesser(word(case, 0) as usize, 255) as u8
@@ -24,8 +24,8 @@ pub fn answer_check<W: Write>(out: &mut W, case: &[u8]) -> Result<()> {
     );
     out.write_all(b"check_entries")?;
     match check {
-        Check::Refused(refusal) => put_refusal(out, refusal),
-        Check::Accepted => put_figures(out, &[0, 0]),
+        Err(refusal) => put_refusal(out, refusal),
+        Ok(()) => put_figures(out, &[0, 0]),
     }
 }
 

@@ -3,27 +3,26 @@ use crate::answers::{put_figures, put_refusal};
 use crate::case::{bytes, past, wide, word};
 use crate::lent::{LENT_BYTE, MOST_BYTES, put_block};
 use columns::lesser;
-use lines::Listing;
-use std::io::{Result, Write};
+use std::io::{self, Write};
 use units::{Rate, Refusal};
 
 // How many bytes the text has, and the lent block.
 fn put_text<W: Write>(
     out: &mut W,
-    listing: Listing,
+    listing: Result<usize, Refusal>,
     lent: &[u8; MOST_BYTES],
     room: usize,
-) -> Result<()> {
+) -> io::Result<()> {
     match listing {
-        Listing::Refused(refusal) => put_refusal(out, refusal)?,
-        Listing::Text(size) => {
+        Err(refusal) => put_refusal(out, refusal)?,
+        Ok(size) => {
             put_figures(out, &[0, 0, size as u64])?;
         }
     }
     put_block(out, lent, room)
 }
 
-pub fn answer_refusal<W: Write>(out: &mut W, case: &[u8]) -> Result<()> {
+pub fn answer_refusal<W: Write>(out: &mut W, case: &[u8]) -> io::Result<()> {
     let mut lent = [LENT_BYTE; MOST_BYTES];
     let room = lesser(word(case, 3) as usize, MOST_BYTES);
     let refusal = Refusal {
@@ -35,7 +34,7 @@ pub fn answer_refusal<W: Write>(out: &mut W, case: &[u8]) -> Result<()> {
     put_text(out, line, &lent, room)
 }
 
-pub fn answer_shares<W: Write>(out: &mut W, case: &[u8]) -> Result<()> {
+pub fn answer_shares<W: Write>(out: &mut W, case: &[u8]) -> io::Result<()> {
     let mut lent = [LENT_BYTE; MOST_BYTES];
     let room = lesser(word(case, 0) as usize, MOST_BYTES);
     let listing = sharelisting::list_shares(bytes(past(case, 1)), &mut lent[0..room]);
@@ -43,7 +42,7 @@ pub fn answer_shares<W: Write>(out: &mut W, case: &[u8]) -> Result<()> {
     put_text(out, listing, &lent, room)
 }
 
-pub fn answer_charges<W: Write>(out: &mut W, case: &[u8]) -> Result<()> {
+pub fn answer_charges<W: Write>(out: &mut W, case: &[u8]) -> io::Result<()> {
     let mut lent = [LENT_BYTE; MOST_BYTES];
     let room = lesser(word(case, 1) as usize, MOST_BYTES);
     let rate = Rate(word(case, 0));
@@ -52,7 +51,7 @@ pub fn answer_charges<W: Write>(out: &mut W, case: &[u8]) -> Result<()> {
     put_text(out, listing, &lent, room)
 }
 
-pub fn answer_points<W: Write>(out: &mut W, case: &[u8]) -> Result<()> {
+pub fn answer_points<W: Write>(out: &mut W, case: &[u8]) -> io::Result<()> {
     let mut lent = [LENT_BYTE; MOST_BYTES];
     let room = lesser(word(case, 0) as usize, MOST_BYTES);
     let listing = pointlisting::list_points(bytes(past(case, 1)), &mut lent[0..room]);

@@ -1,4 +1,5 @@
 -- A text that is counted first, from the block's end on, answers a listing whose input is accepted; a refused input has none.
+use Rattle.std.specs.Prelude.{Ok, Err}
 use mathlib.Core.Path.{◌≡◌, ap, ◌∙◌}
 use mathlib.Core.List.{List}
 use Prim.Native.Nat.{ℕ, ◌≤◌, ◌<◌}
@@ -8,11 +9,8 @@ use borrow.Author.Tests.{le-leb, lt-leb}
 use lib.ListN.{length}
 use lib.Seq.{sets}
 use Rattle.units.specs.declared.refusal.Refusal.{Refusal}
-use Rattle.units.specs.declared.refusal.Check.{Check}
-use Rattle.units.specs.declared.refusal.Check.TheVariants.{Accepted}
-use Rattle.units.specs.Refusals.{plain, ◌then◌, keep}
+use Rattle.units.specs.Refusals.{plain, ◌then◌, keep, Check, first_refusal}
 use Rattle.text.specs.Text.{Laid}
-use Rattle.lines.specs.declared.Listing.TheVariants.{Refused, Text}
 use Rattle.lines.specs.Answer.{listing_check, ListingAnswered}
 use Rattle.lines.proofs.Lining.{laid-past}
 
@@ -20,21 +18,21 @@ module _ {text lent between : List ℕ} {size : ℕ} (counted : Laid text lent (
   same : between ≡ lent
   same = laid-past (le_refl (length lent)) counted
 
-  pub too_long : (refusal : Refusal) → refusal ≡ plain 7 → length lent < size → ListingAnswered Accepted text lent between (Refused refusal)
-  unfolding listing_check ◌then◌ keep
+  pub too_long : (refusal : Refusal) → refusal ≡ plain 7 → length lent < size → ListingAnswered (Ok tt) text lent between (Err refusal)
+  unfolding listing_check first_refusal keep
   too_long refusal e l =
       let long = lt-leb (length text) (length lent) (omega (arith, counted.counts)) in
       record { answers = rw (long, e); leaves = rw (long, same) }
 
   pub fits : {after : List ℕ} {again : ℕ} → size ≤ length lent → Laid text between 0 again after
-      → ListingAnswered Accepted text lent after (Text size)
-  unfolding listing_check ◌then◌ keep
+      → ListingAnswered (Ok tt) text lent after (Ok size)
+  unfolding listing_check first_refusal keep
   fits h laid =
       let short = le-leb (length text) (length lent) (omega (arith, counted.counts)) in
       record { answers = rw (short, counted.counts); leaves = rw short (laid.lays ∙ ap (λ list. sets list 0 text) same) }
 
 -- for callers: what the tests refuse
-pub refused-before : {tests : Check} {refusal : Refusal} (text lent : List ℕ) → tests ≡ Check.Refused refusal
-    → ListingAnswered tests text lent lent (Refused refusal)
-unfolding listing_check ◌then◌
+pub refused-before : {tests : Check} {refusal : Refusal} (text lent : List ℕ) → tests ≡ Err refusal
+    → ListingAnswered tests text lent lent (Err refusal)
+unfolding listing_check first_refusal
 refused-before text lent e = record { answers = rw e; leaves = rw e }

@@ -1,9 +1,8 @@
 // The lines of a listing, laid into a lent block. Every input is taken: what lies past the block is dropped.
 #![tactic(auto)]
 
-ghost use Rattle.std.specs.Prelude.{[], ◌∷◌, ◌++◌, ◌+◌, ◌^◌, ◌≤◌, ◌<◌, length, take};
+ghost use Rattle.std.specs.Prelude.{[], ◌∷◌, ◌++◌, ◌+◌, ◌^◌, ◌≤◌, ◌<◌, length, take, Ok};
 ghost use Rattle.text.specs.Text.{decimal, Laid};
-ghost use Rattle.units.specs.declared.refusal.Check.TheVariants.{Accepted};
 ghost use Rattle.lines.specs.Line.{most_figures, spaced, labelled, decimals, line, refused};
 ghost use Rattle.lines.specs.Answer.{ListingAnswered};
 
@@ -16,13 +15,6 @@ const LINE_END: u8 = 10;
 const SPACE: u8 = 32;
 // No line has more figures; the bytes of so many can be counted, those of any lent list cannot.
 const MOST_FIGURES: usize = 64;
-
-// How many bytes a listing's text has, or why the listing is refused.
-#[derive(Clone, Copy)]
-pub enum Listing {
-    Refused(Refusal),
-    Text(usize),
-}
 
 // Lays a word and a space from `at` on, and returns how many bytes they are.
 pub fn put_word(word: &[u8], text: &mut [u8], at: usize) -> usize
@@ -71,16 +63,16 @@ pub fn put_refusal(refusal: Refusal, text: &mut [u8], at: usize) -> usize
 }
 
 // Lays the line of a refusal to the front of a lent block. It is counted before: laid from the block's end on, it changes nothing.
-pub fn refusal_line(refusal: Refusal, lent: &mut [u8]) -> Listing
-    ensures { ListingAnswered Accepted (refused refusal) lent.old lent.new result }
+pub fn refusal_line(refusal: Refusal, lent: &mut [u8]) -> Result<usize, Refusal>
+    ensures { ListingAnswered (Ok tt) (refused refusal) lent.old lent.new result }
 {
     let room = lent.len();
     let size = put_refusal(refusal, lent, room);
     if room < size {
-        return Listing::Refused(Refusal::plain(7));
+        return Err(Refusal::plain(7));
     }
     put_refusal(refusal, lent, 0);
-    Listing::Text(size)
+    Ok(size)
 }
 
 // Lays a figure and the byte that ends it.

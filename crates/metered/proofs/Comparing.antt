@@ -1,4 +1,5 @@
 -- Hours compared are those metered, each less what is excused: none is above its metered hour, and where nothing is excused all are equal.
+use Rattle.std.specs.Prelude.{Ok}
 use mathlib.Core.Path.{◌≡◌, ap, sym, ◌∙◌}
 use mathlib.Core.List.{List}
 use Prim.Native.Nat.{ℕ, ◌-◌, ◌≤◌, ◌<◌}
@@ -12,7 +13,6 @@ use Rattle.columns.specs.Column.{col, listed}
 use Rattle.columns.proofs.Firsts.{first-none}
 use Rattle.columns.proofs.Lists.{Filling, filling_whole, length-listed, col-listed, listed-col, listed_same}
 use Rattle.units.specs.declared.Megajoules.{Megajoules}
-use Rattle.units.specs.declared.refusal.Check.{Check}
 use Rattle.units.proofs.Checks.{accepts-both, accepts-clear}
 use Rattle.metered.specs.Hours.{delivered, received}
 use Rattle.metered.specs.Private.{Within}
@@ -52,7 +52,7 @@ module _ (metered excused : List ℕ) where
   compared-within low hour = omega (arith, low hour, compared-most hour)
 
   -- ---- what is excused within what was metered is accepted
-  pub accepts-excused : ((hour : ℕ) → col excused hour ≤ col metered hour) → excused_check metered excused ≡ Check.Accepted
+  pub accepts-excused : ((hour : ℕ) → col excused hour ≤ col metered hour) → excused_check metered excused ≡ Ok tt
   accepts-excused low =
       accepts-clear _ _ _
       (le_of_eq (sym (first-none (λ hour. ltb (col metered hour) (col excused hour)) (both_have metered excused)
@@ -63,14 +63,14 @@ module _ (metered excused : List ℕ) where
     pub compared-all : compared metered excused ≡ metered
     compared-all = listed_same (length metered) less (col metered) (λ hour l. omega (arith, nothing hour)) ∙ listed-col metered
 
-    pub accepts-nothing : excused_check metered excused ≡ Check.Accepted
+    pub accepts-nothing : excused_check metered excused ≡ Ok tt
     accepts-nothing = accepts-excused (λ hour. omega (arith, nothing hour))
 
 -- the same of both sides' hours
 pub accepts-excused_hours : (hours excused : List (List Megajoules))
     → ((hour : ℕ) → col (delivered excused) hour ≤ col (delivered hours) hour)
     → ((hour : ℕ) → col (received excused) hour ≤ col (received hours) hour)
-    → excused_hours_check hours excused ≡ Check.Accepted
+    → excused_hours_check hours excused ≡ Ok tt
 unfolding excused_hours_check
 accepts-excused_hours hours excused d r =
     accepts-both (accepts-excused (delivered hours) (delivered excused) d) (accepts-excused (received hours) (received excused) r)

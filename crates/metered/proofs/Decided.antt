@@ -4,13 +4,13 @@ use mathlib.Core.List.{List}
 use Prim.Native.Nat.{ℕ}
 use Rattle.units.specs.declared.Gigajoules.{Gigajoules}
 use Rattle.units.specs.declared.Megajoules.{Megajoules}
-use Rattle.units.specs.declared.refusal.Check.{Check}
 use Rattle.units.specs.Verdict.{of_check, Decided}
 use Rattle.units.proofs.Verdicts.{AllNumbered, none, ◌and◌, kept_by, cleared_by, checked}
 use Rattle.metered.specs.declared.Side.{Side}
 use Rattle.metered.specs.Hours.{delivered, received, hours_check}
 use Rattle.metered.specs.Excused.{excused_check, excused_hours_check}
 use Rattle.metered.specs.Singles.{mdqs_check, side_check, sides_check}
+use Rattle.units.specs.Refusals.{Check}
 
 pub rows_numbered : (hours : List (List Megajoules)) → AllNumbered (hours_check hours)
 unfolding hours_check

@@ -3,8 +3,7 @@ use Rattle.std.specs.Prelude.{List, ℕ, ◌-◌, min, ltb, length}
 use Rattle.columns.specs.Column.{col, listed}
 use Rattle.columns.specs.First.{first}
 use Rattle.units.specs.declared.Megajoules.{Megajoules}
-use Rattle.units.specs.declared.refusal.Check.{Check}
-use Rattle.units.specs.Refusals.{◌then◌, clear}
+use Rattle.units.specs.Refusals.{◌then◌, clear, Check}
 use Rattle.metered.specs.Hours.{delivered, received}
 
 -- how many hours both lists have

@@ -1,9 +1,8 @@
 -- Both sides' 24 hours are one value, two rows of 24, delivered first.
-use Rattle.std.specs.Prelude.{List, [], ◌∷◌, ◌++◌, map, ℕ, get_or, replicate}
+use Rattle.std.specs.Prelude.{List, [], ◌∷◌, ◌++◌, map, ℕ, get_or, replicate, Ok}
 use Rattle.units.specs.declared.Megajoules.{Megajoules}
-use Rattle.units.specs.declared.refusal.Check.{Check}
 use Rattle.units.specs.Bound.{most_hour}
-use Rattle.units.specs.Refusals.{◌then◌, within}
+use Rattle.units.specs.Refusals.{◌then◌, within, Check}
 
 -- the bare numbers of a row
 abbrev pub bare_hours : List Megajoules → List ℕ
@@ -22,7 +21,7 @@ both_days yesterday today = bare_hours yesterday ++ bare_hours today
 -- 3 at the lowest hour beyond its bound, delivered hours first
 unfoldable pub hours_check : List (List Megajoules) → Check
 hours_check hours =
-    Check.Accepted
+    Ok tt
     then within most_hour (delivered hours)
     then within most_hour (received hours)
 

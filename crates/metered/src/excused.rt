@@ -1,11 +1,10 @@
-ghost use Rattle.std.specs.Prelude.{◌≡◌, true, ◌-◌};
-ghost use Rattle.units.specs.declared.refusal.Check.TheVariants.{Accepted};
+ghost use Rattle.std.specs.Prelude.{◌≡◌, true, ◌-◌, Ok};
 ghost use Rattle.metered.specs.Hours.{bare_hours};
 ghost use Rattle.metered.specs.Excused.{both_have, first_above_metered, excused_check, excused_hours_check};
 
 use crate::hours::bare_hours;
 use columns::lesser;
-use units::{Check, Megajoules};
+use units::{Megajoules, Refusal, clear};
 
 // Whether no hour has more excused than was metered. All are looked at, and so several at once.
 fn excused_keep(metered: &[u64], excused: &[u64]) -> bool
@@ -40,16 +39,16 @@ fn first_above_metered(metered: &[u64], excused: &[u64]) -> usize
 }
 
 // Whether a list's excused hours are within those metered.
-pub fn examine_excused(metered: &[u64], excused: &[u64]) -> Check
+pub fn examine_excused(metered: &[u64], excused: &[u64]) -> Result<(), Refusal>
     ensures { result ≡ excused_check metered.now excused.now }
 {
     let hours = lesser(metered.len(), excused.len());
-    Check::Accepted.clear(hours, first_above_metered(metered, excused), 3)
+    clear(hours, first_above_metered(metered, excused), 3)
 }
 
 // Whether no hour of a row has more excused than was metered, without a list of its hours. All are looked at.
 fn row_keeps(metered: [Megajoules; 24], excused: [Megajoules; 24]) -> bool
-    ensures { result ≡ true → excused_check (bare_hours metered) (bare_hours excused) ≡ Accepted }
+    ensures { result ≡ true → excused_check (bare_hours metered) (bare_hours excused) ≡ Ok tt }
 {
     let mut kept = true;
     for hour in 0..24usize {
@@ -61,11 +60,11 @@ fn row_keeps(metered: [Megajoules; 24], excused: [Megajoules; 24]) -> bool
 }
 
 // Whether a row's excused hours are within those metered.
-fn examine_excused_row(metered: [Megajoules; 24], excused: [Megajoules; 24]) -> Check
+fn examine_excused_row(metered: [Megajoules; 24], excused: [Megajoules; 24]) -> Result<(), Refusal>
     ensures { result ≡ excused_check (bare_hours metered) (bare_hours excused) }
 {
     if row_keeps(metered, excused) {
-        return Check::Accepted;
+        return Ok(());
     }
     let metered_hours = bare_hours(metered);
     let excused_hours = bare_hours(excused);
@@ -73,12 +72,12 @@ fn examine_excused_row(metered: [Megajoules; 24], excused: [Megajoules; 24]) -> 
 }
 
 // Whether both sides' are, delivered first.
-pub fn examine_excused_hours(hours: [[Megajoules; 24]; 2], excused: [[Megajoules; 24]; 2]) -> Check
+#[tactic(auto, unfolding(crate::specs::Excused::excused_hours_check, units::specs::Refusals::first_refusal))]
+pub fn examine_excused_hours(hours: [[Megajoules; 24]; 2], excused: [[Megajoules; 24]; 2]) -> Result<(), Refusal>
     ensures { result ≡ excused_hours_check hours excused }
 {
-    let delivered = examine_excused_row(hours[0], excused[0]);
-    let received = examine_excused_row(hours[1], excused[1]);
-    delivered.then(received)
+    examine_excused_row(hours[0], excused[0])?;
+    examine_excused_row(hours[1], excused[1])
 }
 
 // What is above a limit, or left of an hour once so much of it is excused.

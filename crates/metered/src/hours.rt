@@ -2,7 +2,7 @@ ghost use Rattle.std.specs.Prelude.{◌≡◌, replicate};
 ghost use Rattle.std.proofs.lemmas.List.Edits.{sets};
 ghost use Rattle.metered.specs.Hours.{bare_hours, both_days, hours_check};
 
-use units::{Check, MOST_HOUR, Megajoules};
+use units::{MOST_HOUR, Megajoules, Refusal, megajoules_within};
 
 // The bare numbers of a row of 24 hours.
 pub fn bare_hours(row: [Megajoules; 24]) -> [u64; 24]
@@ -38,12 +38,12 @@ pub fn both_days(yesterday: [Megajoules; 11], today: [Megajoules; 24]) -> [u64; 
 }
 
 // Whether both sides' hours are within their bound, delivered first.
-pub fn examine_hours(hours: [[Megajoules; 24]; 2]) -> Check
+#[tactic(auto, unfolding(crate::specs::Hours::hours_check, units::specs::Refusals::first_refusal))]
+pub fn examine_hours(hours: [[Megajoules; 24]; 2]) -> Result<(), Refusal>
     ensures { result ≡ hours_check hours }
 {
     let delivered = bare_hours(hours[0]);
     let received = bare_hours(hours[1]);
-    Check::Accepted
-        .megajoules_within(&delivered, MOST_HOUR)
-        .megajoules_within(&received, MOST_HOUR)
+    megajoules_within(&delivered, MOST_HOUR)?;
+    megajoules_within(&received, MOST_HOUR)
 }

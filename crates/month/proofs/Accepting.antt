@@ -1,4 +1,5 @@
 -- What acceptance says of figures and of days, and what accepts; figures that the routines of overruns and charges give are accepted.
+use Rattle.std.specs.Prelude.{Ok}
 use mathlib.Core.Path.{◌≡◌, refl}
 use mathlib.Core.Logic.{⊎_elim}
 use Prim.Native.Nat.{ℕ, zero, suc, ◌≤◌, ◌<◌}
@@ -7,7 +8,6 @@ use borrow.Author.Tests.{leb-true, ltb-true, le-leb, eqb-true, eq-eqb}
 use Rattle.columns.specs.Column.{col}
 use Rattle.units.specs.declared.Cents.{Cents}
 use Rattle.units.specs.declared.Rate.{Rate}
-use Rattle.units.specs.declared.refusal.Check.TheVariants.{Accepted}
 use Rattle.units.proofs.Checks.{both-accepted, kept, accepts-both, accepts-kept}
 use Rattle.units.proofs.Testing.{each-accepted, accepts-each}
 use Rattle.excesses.specs.Greatest.{greatest, Greatest}
@@ -28,7 +28,7 @@ pub record FiguresKept (F : Figures) : Type 0 where
   pub within : (place : ℕ) → place < 7 → figure F place ≤ col figure_bounds place
   pub greatest : F.chargeable.0 ≡ greatest F.hourly.0 F.twelve_hourly.0 F.daily_receipt.0 F.daily_delivery.0
 
-pub figures-kept : (F : Figures) → figures_check F ≡ Accepted → FiguresKept F
+pub figures-kept : (F : Figures) → figures_check F ≡ Ok tt → FiguresKept F
 unfolding figures_check
 figures-kept F accepted =
     let both = both-accepted _ _ accepted in
@@ -37,7 +37,7 @@ figures-kept F accepted =
       greatest = eqb-true _ _ (kept _ _ both.1);
     }
 
-pub accepts-figures : (F : Figures) → FiguresKept F → figures_check F ≡ Accepted
+pub accepts-figures : (F : Figures) → FiguresKept F → figures_check F ≡ Ok tt
 unfolding figures_check
 accepts-figures F K =
     accepts-both (accepts-each _ 7 (λ place l. accepts-kept 3 (le-leb _ _ (K.within place l)))) (accepts-kept 3 (eq-eqb _ _ K.greatest))
@@ -81,7 +81,7 @@ pub given-accepted : (D : ShipperDay) (E : ExcusedHours) (variation_rate request
     (figures_given (day_verdict (excused_day_answer D E)).figures
     (charge_verdict (variation_charge variation_rate receipt delivery)).figures
     (charge_verdict (request_charge request_rate requests)).figures)
-    ≡ Accepted
+    ≡ Ok tt
 given-accepted D E variation_rate request_rate receipt delivery requests =
     let K = excused-day-kept D E refl in
     accepts-figures _
@@ -95,10 +95,10 @@ given-accepted D E variation_rate request_rate receipt delivery requests =
 -- ---- the days of a month
 pub record DaysKept (n : ℕ) (days : ℕ → AccountDay) : Type 0 where
   pub few : n ≤ most_days
-  pub figures : (row : ℕ) → row < n → figures_check (days row).figures ≡ Accepted
-  pub rise : (row : ℕ) → row < n → later days row (days row).number ≡ Accepted
+  pub figures : (row : ℕ) → row < n → figures_check (days row).figures ≡ Ok tt
+  pub rise : (row : ℕ) → row < n → later days row (days row).number ≡ Ok tt
 
-pub days-kept : (n : ℕ) (days : ℕ → AccountDay) → days_check n days ≡ Accepted → DaysKept n days
+pub days-kept : (n : ℕ) (days : ℕ → AccountDay) → days_check n days ≡ Ok tt → DaysKept n days
 unfolding days_check
 days-kept n days accepted =
     let both = both-accepted _ _ accepted in
@@ -109,7 +109,7 @@ days-kept n days accepted =
       rise = each-accepted _ n both.1;
     }
 
-pub accepts-days : (n : ℕ) (days : ℕ → AccountDay) → DaysKept n days → days_check n days ≡ Accepted
+pub accepts-days : (n : ℕ) (days : ℕ → AccountDay) → DaysKept n days → days_check n days ≡ Ok tt
 unfolding days_check
 accepts-days n days K =
     accepts-both (accepts-both (accepts-kept 3 (le-leb _ _ K.few)) (accepts-each _ n K.figures)) (accepts-each _ n K.rise)
@@ -117,11 +117,11 @@ accepts-days n days K =
 -- ---- one day more
 pub record NextKept (n : ℕ) (days : ℕ → AccountDay) (day : AccountDay) : Type 0 where
   pub few : n < most_days
-  pub figures : figures_check day.figures ≡ Accepted
-  pub before : days_check n days ≡ Accepted
-  pub rises : later days n day.number ≡ Accepted
+  pub figures : figures_check day.figures ≡ Ok tt
+  pub before : days_check n days ≡ Ok tt
+  pub rises : later days n day.number ≡ Ok tt
 
-pub next-kept : (n : ℕ) (days : ℕ → AccountDay) (day : AccountDay) → next_check n days day ≡ Accepted → NextKept n days day
+pub next-kept : (n : ℕ) (days : ℕ → AccountDay) (day : AccountDay) → next_check n days day ≡ Ok tt → NextKept n days day
 unfolding next_check
 next-kept n days day accepted =
     let all = both-accepted _ _ accepted in

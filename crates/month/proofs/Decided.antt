@@ -3,7 +3,6 @@ use mathlib.Core.Path.{◌≡◌, refl, ap}
 use mathlib.Core.List.{List}
 use Prim.Native.Nat.{ℕ, zero, suc}
 use lib.ListN.{length}
-use Rattle.units.specs.declared.refusal.Check.{Check}
 use Rattle.units.specs.Verdict.{Decided, of_check}
 use Rattle.units.proofs.Verdicts.{AllNumbered, none, ◌and◌, kept_by, each_by, decided, checked}
 use Rattle.lines.specs.Answer.{listing_verdict, listing_check}
@@ -19,6 +18,7 @@ use Rattle.month.specs.Days.{later, days_check, next_check}
 use Rattle.month.specs.Account.{day_at, account_check, taking_check, take_in}
 use Rattle.month.specs.Total.{account_sums, total_answer, total_verdict, total_up}
 use Rattle.month.specs.Statement.{statement, ClosingAnswered}
+use Rattle.units.specs.Refusals.{Check}
 
 figures_numbered : (F : Figures) → AllNumbered (figures_check F)
 unfolding figures_check

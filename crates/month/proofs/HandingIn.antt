@@ -1,4 +1,5 @@
 -- From the empty account on, an account holds just the days accepted, and what it answers follows from these alone.
+use Rattle.std.specs.Prelude.{Ok, Err}
 use mathlib.Core.Path.{◌≡◌, refl, sym, ap, ◌∙◌}
 use mathlib.Core.Logic.{⊎_elim}
 use mathlib.Core.List.{List, [], ◌∷◌, ◌++◌}
@@ -10,14 +11,11 @@ use lib.Dec.{ltb}
 use lib.ListN.{length, get_or, take, length-set, length-replicate}
 use lib.Seq.{length-take-le, take-suc-set, get_or-take, get_or-set_same, get_or-set_other}
 use Rattle.columns.proofs.Joined.{joined_same}
-use Rattle.units.specs.declared.refusal.Check.{Check}
-use Rattle.units.specs.declared.refusal.Check.TheVariants.{Accepted, Refused}
-use Rattle.units.specs.Refusals.{accepted_or, ◌then◌, keep}
+use Rattle.units.specs.Refusals.{accepted_or, ◌then◌, keep, Check, first_refusal}
 use Rattle.units.specs.Each.{each}
 use Rattle.units.proofs.Checks.{then_accepted}
 use Rattle.month.specs.declared.account.AccountDay.{AccountDay}
 use Rattle.month.specs.declared.account.Account.{Account}
-use Rattle.month.specs.declared.account.Total.{Total}
 use Rattle.month.specs.Figures.{figures_check}
 use Rattle.month.specs.Days.{most_days, no_day, later, days_check, next_check}
 use Rattle.month.specs.Account.{no_days, day_at, account_check, taking_check, with_day, take_in}
@@ -34,7 +32,7 @@ later_same f g zero all number = refl
 later_same f g (suc before) all number = ap (λ day. keep (ltb day.number number) 5) (all before (lt-suc_self before))
 
 -- ---- an accepted day makes a sound account of one
-module _ (A : Account) (day : AccountDay) (long : length A.days ≡ most_days) (taken : taking_check A day ≡ Accepted) where
+module _ (A : Account) (day : AccountDay) (long : length A.days ≡ most_days) (taken : taking_check A day ≡ Ok tt) where
   abbrev after : Account
   after = with_day A day
 
@@ -56,15 +54,15 @@ module _ (A : Account) (day : AccountDay) (long : length A.days ≡ most_days) (
       → (row : ℕ) → row < after.count → P (day_at after row)
   after-each P old new = every-row (λ row. P (day_at after row)) (λ row l. rw (old_row row l) (old row l)) (rw new_row new)
 
-  pub after-sound : account_check after ≡ Accepted
+  pub after-sound : account_check after ≡ Ok tt
   after-sound =
       let K = days-kept A.count (day_at A) N.before in
       accepts-days (A.count + 1) (day_at after)
       (record {
         few = omega (arith, N.few);
-        figures = after-each (λ day. figures_check day.figures ≡ Accepted) K.figures N.figures;
+        figures = after-each (λ day. figures_check day.figures ≡ Ok tt) K.figures N.figures;
         rise =
-            every-row (λ row. later (day_at after) row (day_at after row).number ≡ Accepted)
+            every-row (λ row. later (day_at after) row (day_at after row).number ≡ Ok tt)
             (λ row l.
             later_same (day_at after) (day_at A) row (λ k m. old_row k (omega (arith, l, m))) _ ∙ rw (old_row row l) (K.rise row l))
             (later_same (day_at after) (day_at A) A.count old_row _ ∙ rw new_row N.rises);
@@ -79,7 +77,7 @@ module _ (A : Account) (day : AccountDay) (long : length A.days ≡ most_days) (
 -- ---- an account and the days accepted
 record Holding (A : Account) (accepted : List AccountDay) : Type 0 where
   long : length A.days ≡ most_days
-  sound : account_check A ≡ Accepted
+  sound : account_check A ≡ Ok tt
   holds : take A.count A.days ≡ accepted
 
 module _ (A : Account) (accepted : List AccountDay) (H : Holding A accepted) where
@@ -101,19 +99,19 @@ module _ (A : Account) (accepted : List AccountDay) (H : Holding A accepted) whe
     where
       by : (found : Check) → taking_check A day ≡ found
           → Holding (accepted_or found (with_day A day) A) (accepted_or found (accepted ++ (day ∷ [])) accepted)
-      by Accepted e =
+      by (Ok _) e =
           record {
             long = after-long A day H.long e;
             sound = after-sound A day H.long e;
             holds = after-days A day H.long e ∙ ap (λ days. days ++ (day ∷ [])) H.holds;
           }
-      by (Refused refusal) e = H
+      by (Err refusal) e = H
 
   sums-held : account_sums A ≡ sums (length accepted) (in_row accepted)
   sums-held = sums_same (day_at A) (in_row accepted) A.count row_same ∙ ap (λ n. sums n (in_row accepted)) many
 
-  total-held : (total_up A).total ≡ Total.Sums (sums (length accepted) (in_row accepted))
-  total-held = rw H.sound (ap Total.Sums sums-held)
+  total-held : (total_up A).total ≡ Ok (sums (length accepted) (in_row accepted))
+  total-held = rw H.sound (ap Ok sums-held)
 
   statement-held : statement A ≡ statement_of (length accepted) (in_row accepted)
   statement-held =
@@ -141,8 +139,8 @@ answers-after A accepted (day ∷ days) H =
 pub none-long : length no_days.days ≡ most_days
 none-long = length-replicate most_days no_day
 
-pub none-sound : account_check no_days ≡ Accepted
-unfolding days_check each ◌then◌ keep
+pub none-sound : account_check no_days ≡ Ok tt
+unfolding days_check each first_refusal keep
 none-sound = refl
 
 holding_none : Holding no_days []

@@ -1,5 +1,4 @@
 pub mod Accepting
-pub mod Examining
 pub mod Taking
 pub mod Totalling
 pub mod HandingIn

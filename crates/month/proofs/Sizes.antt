@@ -1,10 +1,10 @@
 -- Room for every statement: each figure has as many digits as its bound at most, each sum as 31 times that, and there are at most 31 days.
+use Rattle.std.specs.Prelude.{Ok}
 use mathlib.Core.Path.{◌≡◌}
 use Prim.Native.Nat.{ℕ, ◌≤◌, ◌<◌}
 use native.Mathlib.Nat.{le_refl}
 use native.Mathlib.Omega.{arith}
 use lib.ListN.{length, length-append}
-use Rattle.units.specs.declared.refusal.Check.TheVariants.{Accepted}
 use Rattle.lines.proofs.Sizes.{line-within, figure-within, figure-last}
 use Rattle.lines.proofs.Texts.{texts_most}
 use Rattle.month.specs.declared.account.AccountDay.{AccountDay}
@@ -25,7 +25,7 @@ day-most day few K =
     (figure-within 10 _ _ (omega (arith, most 4 (omega arith)))
     (figure-within 11 _ _ (omega (arith, most 5 (omega arith))) (figure-last 8 _ (omega (arith, most 6 (omega arith))))))))))
 
-total-most : (n : ℕ) (days : ℕ → AccountDay) → days_check n days ≡ Accepted → length (total_line (sums n days)) ≤ 95
+total-most : (n : ℕ) (days : ℕ → AccountDay) → days_check n days ≡ Ok tt → length (total_line (sums n days)) ≤ 95
 total-most n days accepted =
     let most = summed-most days n accepted in
     line-within _ _ (le_refl 5)
@@ -37,7 +37,7 @@ total-most n days accepted =
     (figure-within 12 _ _ (omega (arith, most 5 (omega arith))) (figure-last 9 _ (omega (arith, most 6 (omega arith))))))))))
 
 pub statement-most : (n : ℕ) (days : ℕ → AccountDay) → ((row : ℕ) → row < n → (days row).number ≤ most_day_number)
-    → days_check n days ≡ Accepted → length (statement_of n days) ≤ most_statement
+    → days_check n days ≡ Ok tt → length (statement_of n days) ≤ most_statement
 statement-most n days few accepted =
     let K = days-kept n days accepted in
     omega (

@@ -1,4 +1,5 @@
 -- The days that are left, with those taken off and added, make the total; of an accepted account it is small.
+use Rattle.std.specs.Prelude.{Ok, Err}
 use mathlib.Core.Path.{◌≡◌, refl, sym, ap, ◌∙◌}
 use Prim.Native.Nat.{ℕ, ◌+◌, ◌-◌, ◌*◌, ◌≤◌, ◌<◌}
 use native.Mathlib.Nat.{le_refl, le_trans, le_antisymm, mul-le-mul_right}
@@ -9,12 +10,9 @@ use Rattle.columns.specs.Sum.{sum}
 use Rattle.columns.proofs.Lists.{col-listed}
 use Rattle.columns.proofs.Sums.{sum-next, sum_cong, sum_bound}
 use Rattle.units.specs.declared.refusal.Refusal.{Refusal}
-use Rattle.units.specs.declared.refusal.Check.{Check}
-use Rattle.units.specs.declared.refusal.Check.TheVariants.{Accepted}
 use Rattle.month.specs.declared.figures.Figures.{Figures}
 use Rattle.month.specs.declared.account.AccountDay.{AccountDay}
 use Rattle.month.specs.declared.account.Account.{Account}
-use Rattle.month.specs.declared.account.Total.{Total}
 use Rattle.month.specs.declared.account.Totalled.{Totalled}
 use Rattle.month.specs.Figures.{figure, figures_by, seven_zeros, figure_bounds}
 use Rattle.month.specs.Days.{most_days, no_day, days_check}
@@ -22,6 +20,7 @@ use Rattle.month.specs.Account.{day_at, account_check}
 use Rattle.month.specs.Total.{sums, account_sums, total_up}
 use Rattle.month.specs.Private.{plus, Small}
 use Rattle.month.proofs.Accepting.{at_each, figures-kept, days-kept}
+use Rattle.units.specs.Refusals.{Check}
 
 -- ---- figure by figure
 figure_by : (f : ℕ → ℕ) (place : ℕ) → place < 7 → figure (figures_by f) place ≡ f place
@@ -51,7 +50,7 @@ module _ (days : ℕ → AccountDay) where
       same (summed n) _ (λ place l. sum_cong n _ _ (λ row m. ap (λ day. figure day.figures place) (all row m)))
 
   -- of an accepted account
-  pub summed-most : (n : ℕ) → days_check n days ≡ Accepted → (place : ℕ) → place < 7 → summed n place ≤ most_days * col figure_bounds place
+  pub summed-most : (n : ℕ) → days_check n days ≡ Ok tt → (place : ℕ) → place < 7 → summed n place ≤ most_days * col figure_bounds place
   summed-most n accepted place l =
       let K = days-kept n days accepted in
       le_trans (sum_bound n _ _ (λ row m. (figures-kept _ (K.figures row m)).within place l)) (mul-le-mul_right _ K.few)
@@ -85,7 +84,7 @@ module _ (A : Account) where
           let one_more = ap (λ n. summed (day_at A) n place) one_off in
           omega (arith, T.adds place l, same-day, one_more, sum-next (left.count - 1) (λ row. figure (day_at A row).figures place))
 
-      pub off_small : account_check A ≡ Accepted → Small (plus added last)
+      pub off_small : account_check A ≡ Ok tt → Small (plus added last)
       off_small accepted place l =
           rw (figure_by (λ place. figure added place + figure last place) place l)
           (omega (arith, off_one place l, summed-most (day_at A) A.count accepted place l, most-low place l))
@@ -108,10 +107,10 @@ module _ (A : Account) where
         same (figure added) (summed (day_at A) A.count) (λ place l. omega (arith, (rw all at (T.adds place l))))
 
   -- ---- the answer
-  pub not_totalled : {refusal : Refusal} {found : Check} → found ≡ account_check A → found ≡ Check.Refused refusal
-      → ◌≡◌ {A = Totalled} (record { account = A; total = Total.Refused refusal }) (total_up A)
+  pub not_totalled : {refusal : Refusal} {found : Check} → found ≡ account_check A → found ≡ Err refusal
+      → ◌≡◌ {A = Totalled} (record { account = A; total = Err refusal }) (total_up A)
   not_totalled is e = let refused = sym is ∙ e in rw refused
 
-  pub totalled : {added : Figures} → account_check A ≡ Accepted → added ≡ account_sums A
-      → ◌≡◌ {A = Totalled} (record { account = A; total = Total.Sums added }) (total_up A)
+  pub totalled : {added : Figures} → account_check A ≡ Ok tt → added ≡ account_sums A
+      → ◌≡◌ {A = Totalled} (record { account = A; total = Ok added }) (total_up A)
   totalled accepted e = rw (accepted, e)

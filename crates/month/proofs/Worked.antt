@@ -1,12 +1,12 @@
 -- Worked figures: two days of a month, two that it refuses, a month without days, and the longest statement.
+use Rattle.std.specs.Prelude.{Ok, Err}
 use mathlib.Core.Path.{◌≡◌, refl}
 use mathlib.Core.List.{List, [], ◌∷◌}
 use Prim.Native.Nat.{ℕ, ◌+◌}
 use lib.ListN.{length}
 use Rattle.columns.specs.Column.{col, joined}
 use Rattle.columns.specs.Sum.{sum}
-use Rattle.units.specs.declared.refusal.Check.TheVariants.{Accepted, Refused}
-use Rattle.units.specs.Refusals.{plain, ◌then◌, keep}
+use Rattle.units.specs.Refusals.{plain, ◌then◌, keep, first_refusal}
 use Rattle.units.specs.Each.{each}
 use Rattle.text.specs.Text.{digits, decimal}
 use Rattle.lines.specs.Line.{line}
@@ -33,17 +33,17 @@ pub two_days-total :
     total_line (account_sums two_days)
     ≡ 84 ∷ 79 ∷ 84 ∷ 65 ∷ 76 ∷ 32 ∷ 53 ∷ 32 ∷ 50 ∷ 56 ∷ 56 ∷ 48 ∷ 48 ∷ 48 ∷ 32 ∷ 55 ∷ 32 ∷ 50 ∷ 32 ∷ 50 ∷ 56 ∷ 56 ∷ 48 ∷ 48 ∷ 55 ∷ 32
     ∷ 52 ∷ 48 ∷ 56 ∷ 32 ∷ 51 ∷ 54 ∷ 50 ∷ 55 ∷ 49 ∷ 48 ∷ 10 ∷ []
-unfolding handed_in next_check figures_check days_check each later ◌then◌ keep sum line digits decimal
+unfolding handed_in next_check figures_check days_check each later first_refusal keep sum line digits decimal
 two_days-total = refl
 
 -- day 3 again with zeros
-pub again : (take_in two_days (day_of 3 [])).found ≡ Refused (plain 5)
-unfolding handed_in next_check figures_check days_check each later ◌then◌ keep
+pub again : (take_in two_days (day_of 3 [])).found ≡ Err (plain 5)
+unfolding handed_in next_check figures_check days_check each later first_refusal keep
 again = refl
 
 -- with a delivery overrun of 1 and chargeable 0: 3 and not 5
-pub again-faulty : (take_in two_days (day_of 3 (0 ∷ 0 ∷ 0 ∷ 1 ∷ []))).found ≡ Refused (plain 3)
-unfolding handed_in next_check figures_check days_check each later ◌then◌ keep
+pub again-faulty : (take_in two_days (day_of 3 (0 ∷ 0 ∷ 0 ∷ 1 ∷ []))).found ≡ Err (plain 3)
+unfolding handed_in next_check figures_check days_check each later first_refusal keep
 again-faulty = refl
 
 -- TOTAL 0 0 0 0 0 0 0
@@ -57,8 +57,8 @@ no_days-stated = refl
 abbrev longest_day : ℕ → AccountDay
 longest_day row = day_of (4_000_000_000 + row) figure_bounds
 
-pub longest_accepted : days_check 31 longest_day ≡ Accepted
-unfolding figures_check days_check each later ◌then◌ keep
+pub longest_accepted : days_check 31 longest_day ≡ Ok tt
+unfolding figures_check days_check each later first_refusal keep
 longest_accepted = refl
 
 pub longest_stated : length (statement_of 31 longest_day) ≡ most_statement

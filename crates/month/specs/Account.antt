@@ -1,7 +1,6 @@
 -- C-11: the account of a month. The state goes in and comes back by value with each day; a refused day changes nothing.
 use Rattle.std.specs.Prelude.{ℕ, ◌+◌, get_or, set, replicate}
-use Rattle.units.specs.declared.refusal.Check.{Check}
-use Rattle.units.specs.Refusals.{accepted_or}
+use Rattle.units.specs.Refusals.{accepted_or, Check}
 use Rattle.month.specs.declared.account.AccountDay.{AccountDay}
 use Rattle.month.specs.declared.account.Account.{Account}
 use Rattle.month.specs.declared.account.Taken.{Taken}

@@ -1,7 +1,6 @@
 -- C-11: the tests of a month's days, all at place 0: first 3, then 5.
-use Rattle.std.specs.Prelude.{ℕ, zero, suc, leb, ltb}
-use Rattle.units.specs.declared.refusal.Check.{Check}
-use Rattle.units.specs.Refusals.{◌then◌, keep}
+use Rattle.std.specs.Prelude.{ℕ, zero, suc, leb, ltb, Ok}
+use Rattle.units.specs.Refusals.{◌then◌, keep, Check}
 use Rattle.units.specs.Each.{each}
 use Rattle.month.specs.declared.account.AccountDay.{AccountDay}
 use Rattle.month.specs.Figures.{seven_zeros, figures_check}
@@ -19,7 +18,7 @@ no_day = record { number = 0; figures = seven_zeros }
 
 -- a day after the first n, not later than the last of them, is 5
 unfoldable pub later : (ℕ → AccountDay) → ℕ → ℕ → Check
-later days zero number = Check.Accepted
+later days zero number = Ok tt
 later days (suc before) number = keep (ltb (days before).number number) 5
 
 -- the first n days: their count and their figures, then that their numbers rise

@@ -1,9 +1,8 @@
 -- C-11: a day's four overruns in 01's order, its chargeable quantity, variation and request charge.
 use Rattle.std.specs.Prelude.{List, [], ◌∷◌, ℕ, leb, eqb}
 use Rattle.columns.specs.Column.{col}
-use Rattle.units.specs.declared.refusal.Check.{Check}
 use Rattle.units.specs.Bound.{most_chargeable}
-use Rattle.units.specs.Refusals.{◌then◌, keep}
+use Rattle.units.specs.Refusals.{◌then◌, keep, Check}
 use Rattle.units.specs.Each.{each}
 use Rattle.excesses.specs.Hourly.{most_hourly}
 use Rattle.excesses.specs.TwelveHourly.{most_twelve_hourly}

@@ -1,10 +1,8 @@
 -- C-11: what an account keeps, whatever days are handed in one after another: which are accepted, and that the total is theirs alone.
-use Rattle.std.specs.Prelude.{◌≡◌, List, [], ◌∷◌, ◌++◌, ℕ, ltb, length, get_or, take}
-use Rattle.units.specs.declared.refusal.Check.{Check}
-use Rattle.units.specs.Refusals.{accepted_or, ◌then◌, keep}
+use Rattle.std.specs.Prelude.{◌≡◌, List, [], ◌∷◌, ◌++◌, ℕ, ltb, length, get_or, take, Ok}
+use Rattle.units.specs.Refusals.{accepted_or, ◌then◌, keep, Check}
 use Rattle.month.specs.declared.account.AccountDay.{AccountDay}
 use Rattle.month.specs.declared.account.Account.{Account}
-use Rattle.month.specs.declared.account.Total.{Total}
 use Rattle.month.specs.Figures.{figures_check}
 use Rattle.month.specs.Days.{most_days, no_day, later}
 use Rattle.month.specs.Account.{no_days, take_in}
@@ -54,5 +52,5 @@ module _ (days : List AccountDay) where
   pub record MonthKept : Type 0 where
     pub found : answers no_days days ≡ findings_after [] days
     pub holds : take account.count account.days ≡ accepted
-    pub totals : (total_up account).total ≡ Total.Sums (sums (length accepted) (in_row accepted))
+    pub totals : (total_up account).total ≡ Ok (sums (length accepted) (in_row accepted))
     pub prints : statement account ≡ statement_of (length accepted) (in_row accepted)

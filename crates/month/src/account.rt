@@ -8,8 +8,7 @@ ghost use Rattle.month.specs.Statement.{statement, ClosingAnswered};
 use crate::examine::{examine_account, examine_next};
 use crate::figures::{Figures, NO_FIGURES, plus};
 use crate::statement::list_statement;
-use lines::Listing;
-use units::{Check, Refusal};
+use units::Refusal;
 
 // No month has more.
 pub const MOST_DAYS: usize = 31;
@@ -32,28 +31,21 @@ pub struct Account {
 #[derive(Clone, Copy)]
 pub struct Taken {
     pub account: Account,
-    pub found: Check,
-}
-
-// The seven sums, or why there are none.
-#[derive(Clone, Copy)]
-pub enum Total {
-    Refused(Refusal),
-    Sums(Figures),
+    pub found: Result<(), Refusal>,
 }
 
 // The account, and its total.
 #[derive(Clone, Copy)]
 pub struct Totalled {
     pub account: Account,
-    pub total: Total,
+    pub total: Result<Figures, Refusal>,
 }
 
 // The account after it was closed, and how many bytes its statement has.
 #[derive(Clone, Copy)]
 pub struct Closed {
     pub account: Account,
-    pub listing: Listing,
+    pub listing: Result<usize, Refusal>,
 }
 
 impl Account {
@@ -77,11 +69,11 @@ impl Account {
     {
         let found = examine_next(self, day);
         match found {
-            Check::Refused(_) => Taken {
+            Err(_) => Taken {
                 account: self,
                 found,
             },
-            Check::Accepted => {
+            Ok(()) => {
                 let count = self.count;
                 self.days[count] = day;
                 self.count = count + 1;
@@ -98,11 +90,10 @@ impl Account {
         ensures { result ≡ total_up self }
     {
         let account = self;
-        let found = examine_account(account);
-        if let Check::Refused(refusal) = found {
+        if let Err(refusal) = examine_account(account) {
             return Totalled {
                 account,
-                total: Total::Refused(refusal),
+                total: Err(refusal),
             };
         }
         let mut sums = NO_FIGURES;
@@ -114,38 +105,32 @@ impl Account {
         }
         Totalled {
             account,
-            total: Total::Sums(sums),
+            total: Ok(sums),
         }
     }
 
     // Closes the month: its statement stands at the front of the lent block, and the account comes back empty. A refusal changes nothing.
-    pub fn close(mut self, lent: &mut [u8]) -> Closed
+    pub fn close(self, lent: &mut [u8]) -> Closed
         ensures { ClosingAnswered self lent.old lent.new result }
     {
         let listing = list_account(self, lent);
         match listing {
-            Listing::Refused(_) => Closed {
+            Err(_) => Closed {
                 account: self,
                 listing,
             },
-            Listing::Text(_) => {
-                self = Account::empty();
-                Closed {
-                    account: self,
-                    listing,
-                }
-            }
+            Ok(_) => Closed {
+                account: Account::empty(),
+                listing,
+            },
         }
     }
 }
 
 // A sound account's statement, or why there is none.
-fn list_account(account: Account, lent: &mut [u8]) -> Listing
+fn list_account(account: Account, lent: &mut [u8]) -> Result<usize, Refusal>
     ensures { ListingAnswered (account_check account) (statement account) lent.old lent.new result }
 {
-    let total = account.total_up().total;
-    match total {
-        Total::Refused(refusal) => Listing::Refused(refusal),
-        Total::Sums(sums) => list_statement(account, sums, lent),
-    }
+    let sums = account.total_up().total?;
+    list_statement(account, sums, lent)
 }

@@ -6,68 +6,61 @@ ghost use Rattle.month.specs.Figures.{figures_check};
 ghost use Rattle.month.specs.Account.{day_at, account_check, taking_check};
 
 use crate::account::{Account, AccountDay, MOST_DAYS};
-use units::{Check, Refusal};
+use units::{Refusal, keep};
 
 // An account may hold anything: its count, its days' figures, then that their numbers rise.
-pub fn examine_account(account: Account) -> Check
+#[tactic(auto, unfolding(crate::specs::Days::days_check, units::specs::Refusals::first_refusal))]
+pub fn examine_account(account: Account) -> Result<(), Refusal>
     ensures { result ≡ account_check account }
 {
-    if MOST_DAYS < account.count {
-        return Check::Refused(Refusal::plain(3));
-    }
-    examine_figures(account).then(examine_numbers(account))
+    keep(account.count <= MOST_DAYS, 3)?;
+    examine_figures(account)?;
+    examine_numbers(account)
 }
 
 // A 32nd day, its figures, the account; then that it is later than the last.
-pub fn examine_next(account: Account, day: AccountDay) -> Check
+#[tactic(auto, unfolding(crate::specs::Days::next_check, units::specs::Refusals::first_refusal))]
+pub fn examine_next(account: Account, day: AccountDay) -> Result<(), Refusal>
     ensures { result ≡ taking_check account day }
 {
     let count = account.count;
-    if MOST_DAYS <= count {
-        return Check::Refused(Refusal::plain(3));
-    }
-    day.figures
-        .check()
-        .then(examine_account(account))
-        .then(examine_later(account, count, day.number))
+    keep(count < MOST_DAYS, 3)?;
+    day.figures.check()?;
+    examine_account(account)?;
+    examine_later(account, count, day.number)
 }
 
-fn examine_figures(account: Account) -> Check
+fn examine_figures(account: Account) -> Result<(), Refusal>
     requires { account.count ≤ most_days }
     ensures { result ≡ each account.count (λ row. figures_check (day_at account row).figures) }
 {
-    let mut found = Check::Accepted;
-    let mut row = 0;
-    while row < account.count {
+    for row in 0..account.count {
         let day = account.days[row];
-        found = found.then(day.figures.check());
-        row += 1;
+        day.figures.check()?;
     }
-    found
+    Ok(())
 }
 
-fn examine_numbers(account: Account) -> Check
+fn examine_numbers(account: Account) -> Result<(), Refusal>
     requires { account.count ≤ most_days }
     ensures { result ≡ each account.count (λ row. later (day_at account) row (day_at account row).number) }
 {
-    let mut found = Check::Accepted;
-    let mut row = 0;
-    while row < account.count {
+    for row in 0..account.count {
         let day = account.days[row];
-        found = found.then(examine_later(account, row, day.number));
-        row += 1;
+        examine_later(account, row, day.number)?;
     }
-    found
+    Ok(())
 }
 
 // 5 unless a day's number is later than that of the last day before its row.
-fn examine_later(account: Account, row: usize, number: u32) -> Check
+#[tactic(auto, unfolding(crate::specs::Days::later))]
+fn examine_later(account: Account, row: usize, number: u32) -> Result<(), Refusal>
     requires { row ≤ most_days }
     ensures { result ≡ later (day_at account) row number }
 {
     if row == 0 {
-        return Check::Accepted;
+        return Ok(());
     }
     let last = account.days[row - 1];
-    Check::Accepted.keep(last.number < number, 5)
+    keep(last.number < number, 5)
 }

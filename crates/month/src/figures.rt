@@ -5,8 +5,8 @@ ghost use Rattle.month.specs.Figures.{figures_check, figure_list};
 ghost use Rattle.month.specs.Private.{plus, Small};
 
 use units::{
-    Cents, Check, MOST_BACKHAUL, MOST_CHARGEABLE, MOST_GIGAJOULES, MOST_HOUR, MOST_RATE,
-    MOST_REQUESTS, Megajoules, greater,
+    Cents, MOST_BACKHAUL, MOST_CHARGEABLE, MOST_GIGAJOULES, MOST_HOUR, MOST_RATE, MOST_REQUESTS,
+    Megajoules, Refusal, greater, keep,
 };
 
 // The four overruns in 01's order, the chargeable quantity, the charges for variation and for requests.
@@ -44,18 +44,15 @@ pub const FIGURE_BOUNDS: Figures = Figures {
 
 impl Figures {
     // 3 for a figure larger than 01's bounds can yield, or a chargeable quantity that is not the greatest of the four overruns.
-    pub fn check(self) -> Check
+    pub fn check(self) -> Result<(), Refusal>
         ensures { result ≡ figures_check self }
     {
         let figures = numbers_of(self);
         let most = numbers_of(FIGURE_BOUNDS);
-        let mut found = Check::Accepted;
-        let mut place = 0;
-        while place < 7 {
-            found = found.keep(figures[place] <= most[place], 3);
-            place += 1;
+        for place in 0..7usize {
+            keep(figures[place] <= most[place], 3)?;
         }
-        found.keep(self.chargeable.0 == greatest_of(self).0, 3)
+        keep(self.chargeable.0 == greatest_of(self).0, 3)
     }
 }
 

@@ -6,6 +6,6 @@ mod examine;
 mod figures;
 mod statement;
 
-pub use account::{Account, AccountDay, Closed, MOST_DAYS, Taken, Total, Totalled};
+pub use account::{Account, AccountDay, Closed, MOST_DAYS, Taken, Totalled};
 pub use figures::Figures;
 pub use statement::MOST_STATEMENT;

@@ -1,6 +1,5 @@
 // The text of a statement: a line per day, then TOTAL and the sums.
-ghost use Rattle.std.specs.Prelude.{◌≡◌, ◌+◌, ◌≤◌, length};
-ghost use Rattle.units.specs.declared.refusal.Check.TheVariants.{Accepted};
+ghost use Rattle.std.specs.Prelude.{◌≡◌, ◌+◌, ◌≤◌, length, Ok};
 ghost use Rattle.text.specs.Text.{Laid};
 ghost use Rattle.lines.specs.Answer.{ListingAnswered};
 ghost use Rattle.month.specs.Days.{most_days};
@@ -10,24 +9,24 @@ ghost use Rattle.month.specs.Statement.{statement_line, statement_lines, total_l
 
 use crate::account::{Account, AccountDay, MOST_DAYS};
 use crate::figures::{Figures, numbers_of};
-use lines::{Listing, put_figure, put_line, put_word};
+use lines::{put_figure, put_line, put_word};
 use units::Refusal;
 
 // No statement is longer: 91 bytes for a day's line, 95 for that of the total.
 pub const MOST_STATEMENT: usize = MOST_DAYS * 91 + 95;
 
 // A statement at the front of a lent block; 7 exactly when it is longer than the block. Laid from the block's end on, it is only counted.
-pub fn list_statement(account: Account, sums: Figures, lent: &mut [u8]) -> Listing
+pub fn list_statement(account: Account, sums: Figures, lent: &mut [u8]) -> Result<usize, Refusal>
     requires { (account.count ≤ most_days) × (sums ≡ account_sums account) }
-    ensures { ListingAnswered Accepted (statement account) lent.old lent.new result }
+    ensures { ListingAnswered (Ok tt) (statement account) lent.old lent.new result }
 {
     let room = lent.len();
     let size = put_statement(account, sums, lent, room);
     if room < size {
-        return Listing::Refused(Refusal::plain(7));
+        return Err(Refusal::plain(7));
     }
     put_statement(account, sums, lent, 0);
-    Listing::Text(size)
+    Ok(size)
 }
 
 // The days, then the total.

@@ -1,4 +1,5 @@
 -- Row after row, while each day is accepted, the account is the one after so many rows, and sound.
+use Rattle.std.specs.Prelude.{Ok, Err}
 use mathlib.Core.Path.{◌≡◌, refl, sym, ap, ◌∙◌}
 use mathlib.Core.List.{List}
 use Prim.Native.Nat.{ℕ, zero, suc, ◌+◌, ◌≤◌, ◌<◌}
@@ -8,9 +9,7 @@ use native.Mathlib.Omega.{arith}
 use borrow.Author.Tests.{leb-true}
 use lib.ListN.{length}
 use Rattle.units.specs.declared.refusal.Refusal.{Refusal}
-use Rattle.units.specs.declared.refusal.Check.{Check}
-use Rattle.units.specs.declared.refusal.Check.TheVariants.{Accepted, Refused}
-use Rattle.units.specs.Refusals.{placed}
+use Rattle.units.specs.Refusals.{at_row, placed}
 use Rattle.units.specs.Each.{each}
 use Rattle.units.proofs.Checks.{no_acceptance, both-accepted, kept, placed-accepted, accepts-both, accepts-placed}
 use Rattle.units.proofs.Testing.{each-refused}
@@ -27,7 +26,7 @@ module _ (numbers : List ℕ) where
   pub record Handing (row : ℕ) (A : Account) : Type 0 where
     pub inside : row ≤ days_in numbers
     pub after : A ≡ account_after numbers row
-    pub accepted : each row (month_row_check numbers) ≡ Accepted
+    pub accepted : each row (month_row_check numbers) ≡ Ok tt
 
   pub handing_none : {A : Account} → A ≡ no_days → Handing 0 A
   unfolding account_after each
@@ -38,7 +37,7 @@ module _ (numbers : List ℕ) where
       row-found : month_row_check numbers row ≡ placed row taken.found
       row-found = ap (λ before. placed row (in_turn numbers before row)) (sym H.after) ∙ ap (placed row) (sym T.found)
 
-      pub handing_next : taken.found ≡ Accepted → Handing (row + 1) taken.account
+      pub handing_next : taken.found ≡ Ok tt → Handing (row + 1) taken.account
       unfolding account_after each
       handing_next e =
           record {
@@ -47,15 +46,14 @@ module _ (numbers : List ℕ) where
             accepted = rw add-one (accepts-both H.accepted (row-found ∙ accepts-placed row e));
           }
 
-      pub handing_stops : {refusal : Refusal} {there : Check} → taken.found ≡ Refused refusal → there ≡ placed row taken.found
-          → HandedIn numbers (record { account = A; found = there })
+      pub handing_stops : {refusal : Refusal} → taken.found ≡ Err refusal
+          → HandedIn numbers (record { account = A; found = Err (at_row refusal.number row) })
       unfolding placed
-      handing_stops e is =
-          let stops = is ∙ ap (placed row) e in
+      handing_stops e =
           let refused = each-refused (month_row_check numbers) (days_in numbers) row l H.accepted (row-found ∙ ap (placed row) e) in
-          record { found = stops ∙ sym refused; account = λ accepted. no_acceptance (sym stops ∙ accepted) }
+          record { found = sym refused; account = λ accepted. no_acceptance accepted }
 
-    pub handing_all : days_in numbers ≤ row → HandedIn numbers (record { account = A; found = Accepted })
+    pub handing_all : days_in numbers ≤ row → HandedIn numbers (record { account = A; found = Ok tt })
     handing_all l =
         let all : row ≡ days_in numbers = le_antisymm H.inside l in
         record { found = rw all at (sym H.accepted); account = λ none. rw all at H.after }
@@ -64,10 +62,10 @@ module _ (numbers : List ℕ) where
   pub record AfterRows (n : ℕ) (A : Account) : Type 0 where
     pub many : A.count ≡ n
     pub long : length A.days ≡ most_days
-    pub accepted : account_check A ≡ Accepted
+    pub accepted : account_check A ≡ Ok tt
     pub small : (row : ℕ) → row < A.count → (day_at A row).number ≤ most_day_number
 
-  pub after-rows : (n : ℕ) → each n (month_row_check numbers) ≡ Accepted → AfterRows n (account_after numbers n)
+  pub after-rows : (n : ℕ) → each n (month_row_check numbers) ≡ Ok tt → AfterRows n (account_after numbers n)
   unfolding account_after each
   after-rows zero e = record { many = refl; long = none-long; accepted = none-sound; small = λ row l. absurd (omega (arith, l)) }
   after-rows (suc row) e =

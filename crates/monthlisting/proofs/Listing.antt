@@ -1,12 +1,10 @@
 -- The rows' tests decide whether there is a statement: of accepted rows the account is sound, so that only 7 can refuse it.
+use Rattle.std.specs.Prelude.{Ok, Err}
 use mathlib.Core.Path.{◌≡◌, sym, ◌∙◌}
 use mathlib.Core.List.{List}
 use Prim.Native.Nat.{ℕ}
 use Rattle.units.specs.declared.refusal.Refusal.{Refusal}
-use Rattle.units.specs.declared.refusal.Check.{Check}
-use Rattle.units.specs.declared.refusal.Check.TheVariants.{Accepted, Refused}
 use Rattle.units.proofs.Checks.{both-accepted}
-use Rattle.lines.specs.declared.Listing.TheVariants as Listing
 use Rattle.lines.specs.Answer.{ListingAnswered}
 use Rattle.lines.proofs.Answers.{refused-before}
 use Rattle.month.specs.declared.account.Taken.{Taken}
@@ -15,13 +13,14 @@ use Rattle.month.specs.Statement.{ClosingAnswered}
 use Rattle.monthlisting.specs.Rows.{days_in, month_check, month_listing}
 use Rattle.monthlisting.specs.Private.{HandedIn}
 use Rattle.monthlisting.proofs.Handing.{after-rows}
+use Rattle.units.specs.Refusals.{Check}
 
 module _ (numbers : List ℕ) {handed : Taken} (H : HandedIn numbers handed) {found : Check} (is : found ≡ month_check numbers) where
-  pub some-refused : {refusal : Refusal} (lent : List ℕ) → found ≡ Refused refusal
-      → ListingAnswered (month_check numbers) (month_listing numbers) lent lent (Listing.Refused refusal)
+  pub some-refused : {refusal : Refusal} (lent : List ℕ) → found ≡ Err refusal
+      → ListingAnswered (month_check numbers) (month_listing numbers) lent lent (Err refusal)
   some-refused lent e = refused-before _ lent (sym is ∙ e)
 
-  pub all_listed : {lent after : List ℕ} {closed : Closed} → found ≡ Accepted → ClosingAnswered handed.account lent after closed
+  pub all_listed : {lent after : List ℕ} {closed : Closed} → found ≡ Ok tt → ClosingAnswered handed.account lent after closed
       → ListingAnswered (month_check numbers) (month_listing numbers) lent after closed.listing
   unfolding month_check
   all_listed e closed =

@@ -1,8 +1,7 @@
 -- C-11, for callers in other languages: days as rows of eight numbers in one list, handed in one after another to an empty account.
-use Rattle.std.specs.Prelude.{List, ℕ, zero, suc, ◌+◌, ◌*◌, ◌/◌, ◌%◌, leb, eqb, length}
+use Rattle.std.specs.Prelude.{List, ℕ, zero, suc, ◌+◌, ◌*◌, ◌/◌, ◌%◌, leb, eqb, length, Ok}
 use Rattle.columns.specs.Column.{col}
-use Rattle.units.specs.declared.refusal.Check.{Check}
-use Rattle.units.specs.Refusals.{◌then◌, keep, placed}
+use Rattle.units.specs.Refusals.{◌then◌, keep, placed, Check}
 use Rattle.units.specs.Each.{each}
 use Rattle.month.specs.declared.account.AccountDay.{AccountDay}
 use Rattle.month.specs.declared.account.Account.{Account}
@@ -41,7 +40,7 @@ days_in numbers = length numbers / row_long
 -- 9 unless there are whole rows; then the first day refused refuses the whole
 unfoldable pub month_check : List ℕ → Check
 month_check numbers =
-    Check.Accepted then keep (eqb (length numbers % row_long) 0) 9 then each (days_in numbers) (month_row_check numbers)
+    Ok tt then keep (eqb (length numbers % row_long) 0) 9 then each (days_in numbers) (month_row_check numbers)
 
 abbrev pub month_listing : List ℕ → List ℕ
 month_listing numbers = statement (account_after numbers (days_in numbers))

@@ -5,7 +5,7 @@ ghost use Rattle.monthlisting.specs.Rows.{row_number, row_day, days_in};
 ghost use Rattle.monthlisting.specs.Private.{RowTaken, HandedIn};
 
 use month::{Account, AccountDay, Figures, Taken};
-use units::{Cents, Check, Megajoules, Refusal};
+use units::{Cents, Megajoules, Refusal};
 
 // A day's number, then its seven figures.
 pub const ROW: usize = 8;
@@ -19,11 +19,10 @@ pub fn hand_in(numbers: &[u64]) -> Taken
     let mut row = 0;
     while row < rows {
         let taken = take_row(account, numbers, row);
-        let found = taken.found;
-        if let Check::Refused(_) = found {
+        if let Err(refusal) = taken.found {
             return Taken {
                 account,
-                found: found.placed(row),
+                found: Err(Refusal::at_row(refusal.number, row)),
             };
         }
         account = taken.account;
@@ -31,7 +30,7 @@ pub fn hand_in(numbers: &[u64]) -> Taken
     }
     Taken {
         account,
-        found: Check::Accepted,
+        found: Ok(()),
     }
 }
 
@@ -44,7 +43,7 @@ fn take_row(account: Account, numbers: &[u64], row: usize) -> Taken
     if number > u32::MAX as u64 {
         return Taken {
             account,
-            found: Check::Refused(Refusal::plain(3)),
+            found: Err(Refusal::plain(3)),
         };
     }
     account.take_in(day_of(numbers, row))

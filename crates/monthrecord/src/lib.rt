@@ -6,12 +6,11 @@ ghost use Rattle.month.specs.Account.{take_in};
 ghost use Rattle.month.specs.Total.{total_up};
 ghost use Rattle.month.specs.Statement.{ClosingAnswered};
 
-use lines::Listing;
-use month::{Account, AccountDay, Total};
-use units::Check;
+use month::{Account, AccountDay, Figures};
+use units::Refusal;
 
 // Takes a day in. A refused day changes nothing.
-pub fn take_in(account: &mut Account, day: AccountDay) -> Check
+pub fn take_in(account: &mut Account, day: AccountDay) -> Result<(), Refusal>
     ensures { take_in account.old day ≡ record { account = account.new; found = result } }
 {
     let taken = Account::take_in(*account, day);
@@ -20,7 +19,7 @@ pub fn take_in(account: &mut Account, day: AccountDay) -> Check
 }
 
 // Totals up. The account is as it was.
-pub fn total_up(account: &mut Account) -> Total
+pub fn total_up(account: &mut Account) -> Result<Figures, Refusal>
     ensures { total_up account.old ≡ record { account = account.new; total = result } }
 {
     let totalled = Account::total_up(*account);
@@ -29,7 +28,7 @@ pub fn total_up(account: &mut Account) -> Total
 }
 
 // Closes the month: its statement stands at the front of the lent block, and the account is empty. A refusal changes nothing.
-pub fn close(account: &mut Account, lent: &mut [u8]) -> Listing
+pub fn close(account: &mut Account, lent: &mut [u8]) -> Result<usize, Refusal>
     ensures { ClosingAnswered account.old lent.old lent.new
         (record { account = account.new; listing = result }) }
 {

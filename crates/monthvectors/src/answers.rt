@@ -2,10 +2,9 @@
 ghost use Rattle.std.specs.Prelude.{◌≤◌};
 
 use columns::lesser;
-use lines::Listing;
-use month::{Account, AccountDay, Closed, Figures, MOST_DAYS, Taken, Total, Totalled};
-use std::io::{Result, Write};
-use units::{Check, Refusal};
+use month::{Account, AccountDay, Closed, Figures, MOST_DAYS, Taken, Totalled};
+use std::io::{self, Write};
+use units::Refusal;
 
 // What a lent byte is before the call.
 pub const LENT_BYTE: u8 = 255;
@@ -13,34 +12,34 @@ pub const LENT_BYTE: u8 = 255;
 // No block has more room: one byte more than the longest statement.
 pub const MOST_ROOM: usize = month::MOST_STATEMENT + 1;
 
-fn put<W: Write>(out: &mut W, figure: u64) -> Result<()> {
+fn put<W: Write>(out: &mut W, figure: u64) -> io::Result<()> {
     out.write_all(b" ")?;
     streams::print_decimal(out, figure)
 }
 
 // Figures one after another.
-pub fn put_figures<W: Write>(out: &mut W, figures: &[u64]) -> Result<()> {
+pub fn put_figures<W: Write>(out: &mut W, figures: &[u64]) -> io::Result<()> {
     for place in 0..figures.len() {
         put(out, figures[place])?;
     }
     Ok(())
 }
 
-fn put_refusal<W: Write>(out: &mut W, refusal: Refusal) -> Result<()> {
+fn put_refusal<W: Write>(out: &mut W, refusal: Refusal) -> io::Result<()> {
     put_figures(out, &[refusal.number as u64, refusal.place as u64])
 }
 
 // An account after a day was handed in.
-pub fn put_taken<W: Write>(out: &mut W, taken: Taken) -> Result<()> {
+pub fn put_taken<W: Write>(out: &mut W, taken: Taken) -> io::Result<()> {
     let found = taken.found;
     match found {
-        Check::Refused(refusal) => put_refusal(out, refusal)?,
-        Check::Accepted => put_figures(out, &[0, 0])?,
+        Err(refusal) => put_refusal(out, refusal)?,
+        Ok(()) => put_figures(out, &[0, 0])?,
     }
     put_account(out, taken.account)
 }
 
-pub fn put_sums<W: Write>(out: &mut W, sums: Figures) -> Result<()> {
+pub fn put_sums<W: Write>(out: &mut W, sums: Figures) -> io::Result<()> {
     let numbers = numbers_of(AccountDay {
         number: 0,
         figures: sums,
@@ -49,14 +48,14 @@ pub fn put_sums<W: Write>(out: &mut W, sums: Figures) -> Result<()> {
 }
 
 // An account and its total.
-pub fn put_totalled<W: Write>(out: &mut W, totalled: Totalled) -> Result<()> {
+pub fn put_totalled<W: Write>(out: &mut W, totalled: Totalled) -> io::Result<()> {
     let total = totalled.total;
     match total {
-        Total::Refused(refusal) => {
+        Err(refusal) => {
             put_refusal(out, refusal)?;
             put_figures(out, &[0; 7])?;
         }
-        Total::Sums(sums) => {
+        Ok(sums) => {
             put_figures(out, &[0, 0])?;
             put_sums(out, sums)?;
         }
@@ -67,16 +66,16 @@ pub fn put_totalled<W: Write>(out: &mut W, totalled: Totalled) -> Result<()> {
 // A text's size, and the block that was lent for it.
 pub fn put_listing<W: Write>(
     out: &mut W,
-    listing: Listing,
+    listing: Result<usize, Refusal>,
     lent: &[u8; MOST_ROOM],
     room: usize,
-) -> Result<()> {
+) -> io::Result<()> {
     match listing {
-        Listing::Refused(refusal) => {
+        Err(refusal) => {
             put_refusal(out, refusal)?;
             put_figures(out, &[0])?;
         }
-        Listing::Text(size) => {
+        Ok(size) => {
             put_figures(out, &[0, 0, size as u64])?;
         }
     }
@@ -89,14 +88,14 @@ pub fn put_closed<W: Write>(
     closed: Closed,
     lent: &[u8; MOST_ROOM],
     room: usize,
-) -> Result<()> {
+) -> io::Result<()> {
     let listing = closed.listing;
     put_listing(out, listing, lent, room)?;
     put_account(out, closed.account)
 }
 
 // A lent block as it is after the call, in hexadecimal.
-fn put_block<W: Write>(out: &mut W, lent: &[u8; MOST_ROOM], room: usize) -> Result<()> {
+fn put_block<W: Write>(out: &mut W, lent: &[u8; MOST_ROOM], room: usize) -> io::Result<()> {
     out.write_all(b" :")?;
     for place in 0..lesser(room, MOST_ROOM) {
         put_byte(out, lent[place])?;
@@ -104,12 +103,12 @@ fn put_block<W: Write>(out: &mut W, lent: &[u8; MOST_ROOM], room: usize) -> Resu
     Ok(())
 }
 
-fn put_byte<W: Write>(out: &mut W, byte: u8) -> Result<()> {
+fn put_byte<W: Write>(out: &mut W, byte: u8) -> io::Result<()> {
     streams::print_hex(out, byte)
 }
 
 // Its count, then its days up to the last that is not all zeros.
-pub fn put_account<W: Write>(out: &mut W, account: Account) -> Result<()> {
+pub fn put_account<W: Write>(out: &mut W, account: Account) -> io::Result<()> {
     out.write_all(b" :")?;
     put(out, account.count as u64)?;
     for row in 0..told_of(account) {
@@ -141,7 +140,7 @@ fn is_told(day: AccountDay) -> bool {
     false
 }
 
-fn put_day<W: Write>(out: &mut W, day: AccountDay) -> Result<()> {
+fn put_day<W: Write>(out: &mut W, day: AccountDay) -> io::Result<()> {
     put_figures(out, &numbers_of(day))
 }
 

@@ -1,4 +1,5 @@
 -- The columns of a day's numbers, where each is accepted, make its table.
+use Rattle.std.specs.Prelude.{Result, Ok}
 use mathlib.Core.Path.{◌≡◌, ap, sym, ◌∙◌}
 use mathlib.Core.List.{List}
 use Prim.Native.Nat.{ℕ, ◌≤◌}
@@ -7,7 +8,6 @@ use lib.ListN.{length, take, replicate, length-replicate}
 use lib.Seq.{length-sets}
 use Rattle.columns.specs.Column.{col, listed}
 use Rattle.columns.proofs.Lists.{take-sets, length-listed}
-use Rattle.units.specs.declared.refusal.Check.{Check}
 use Rattle.units.specs.Bound.{most_rows}
 use Rattle.units.proofs.Checks.{both-accepted}
 use Rattle.daytable.specs.Table.{Table}
@@ -16,21 +16,21 @@ use Rattle.dayformat.specs.declared.form.Tag.TheVariants.{Shipper}
 use Rattle.dayformat.specs.declared.layout.Counts.{Counts}
 use Rattle.dayformat.specs.Layout.{count}
 use Rattle.dayvalues.specs.declared.column.ShipperColumn.{ShipperColumn}
-use Rattle.dayvalues.specs.declared.column.ColumnRows.{ColumnRows}
 use Rattle.dayvalues.specs.Column.{ColumnAnswered, column, column_check, place_of, with_column}
 use Rattle.dayvalues.proofs.Accepting.{column-accepted}
 use Rattle.numbershares.specs.DayTable.{table_of}
 use Rattle.numbershares.specs.Private.{columns_check, early_check}
+use Rattle.units.specs.declared.refusal.Refusal.{Refusal}
 
 -- ---- acceptance of all is acceptance of each
 pub record ColumnsAccepted (counts : Counts) (numbers : List ℕ) : Type 0 where
-  pub one : column_check counts numbers 1 most_rows ≡ Check.Accepted
-  pub two : column_check counts numbers 2 most_rows ≡ Check.Accepted
-  pub three : column_check counts numbers 3 most_rows ≡ Check.Accepted
-  pub four : column_check counts numbers 4 most_rows ≡ Check.Accepted
-  pub five : column_check counts numbers 5 most_rows ≡ Check.Accepted
+  pub one : column_check counts numbers 1 most_rows ≡ Ok tt
+  pub two : column_check counts numbers 2 most_rows ≡ Ok tt
+  pub three : column_check counts numbers 3 most_rows ≡ Ok tt
+  pub four : column_check counts numbers 4 most_rows ≡ Ok tt
+  pub five : column_check counts numbers 5 most_rows ≡ Ok tt
 
-pub columns_accepted : (day : Day) (numbers : List ℕ) → early_check day numbers ≡ Check.Accepted → ColumnsAccepted day.counts numbers
+pub columns_accepted : (day : Day) (numbers : List ℕ) → early_check day numbers ≡ Ok tt → ColumnsAccepted day.counts numbers
 unfolding early_check columns_check
 columns_accepted day numbers e =
     let five = both-accepted _ _ (both-accepted _ _ e).1 in
@@ -50,9 +50,9 @@ few-rows counts numbers E =
     )
 
 -- ---- a column laid into zeros
-pub column-had : (counts : Counts) (numbers : List ℕ) (which : ShipperColumn) {rows : ColumnRows} {after : List ℕ}
+pub column-had : (counts : Counts) (numbers : List ℕ) (which : ShipperColumn) {rows : Result ℕ Refusal} {after : List ℕ}
     → ColumnAnswered counts numbers which (replicate most_rows 0) rows after
-    → column_check counts numbers (place_of which) most_rows ≡ Check.Accepted
+    → column_check counts numbers (place_of which) most_rows ≡ Ok tt
     → after ≡ with_column counts (col numbers) (place_of which) (replicate most_rows 0)
 column-had counts numbers which A e =
     let long = length-replicate {A = ℕ} most_rows 0 in

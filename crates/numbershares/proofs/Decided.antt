@@ -1,4 +1,5 @@
 -- The tests decide an answer of `share_numbers`: number 0 exactly where they accept, with the table's shares, which keep demand 3.
+use Rattle.std.specs.Prelude.{Result}
 use mathlib.Core.Path.{◌≡◌, refl, ◌∙◌}
 use mathlib.Core.List.{List}
 use Prim.Native.Nat.{ℕ}
@@ -10,12 +11,13 @@ use Rattle.units.proofs.Verdicts.{AllNumbered, none, ◌and◌, kept_by, decided
 use Rattle.daytable.proofs.Decided.{check_numbered}
 use Rattle.dayformat.specs.declared.day.Day.{Day}
 use Rattle.dayformat.proofs.Decided.{counts_numbered}
-use Rattle.dayshares.specs.declared.Day.{Day as DayShares}
 use Rattle.dayshares.specs.Answer.{day_shares, shares_answer, shares_verdict}
 use Rattle.dayshares.specs.Promise.{SharesKept}
 use Rattle.dayshares.proofs.Decided.{day-kept}
 use Rattle.numbershares.specs.DayTable.{table_of}
 use Rattle.numbershares.specs.Answer.{numbers_check, NumbersAnswered}
+use Rattle.units.specs.declared.refusal.Refusal.{Refusal}
+use Rattle.dayshares.specs.declared.Shares.{Shares}
 
 numbers_numbered : (day : Day) (numbers : List ℕ) (firm auction lower_tier : ℕ)
     → AllNumbered (numbers_check day numbers firm auction lower_tier)
@@ -23,7 +25,7 @@ unfolding numbers_check
 numbers_numbered day numbers firm auction lower_tier =
     none and kept_by _ 9 tt tt and counts_numbered day.counts and check_numbered (table_of day (col numbers)) _ _ _
 
-module _ {day : Day} {numbers firm auction lower_tier : List ℕ} {answered : DayShares} {firm_after auction_after lower_tier_after : List ℕ}
+module _ {day : Day} {numbers firm auction lower_tier : List ℕ} {answered : Result Shares Refusal} {firm_after auction_after lower_tier_after : List ℕ}
     (A : NumbersAnswered day numbers firm auction lower_tier answered firm_after auction_after lower_tier_after) where
   pub numbers_decided :
       Decided (numbers_check day numbers (length firm) (length auction) (length lower_tier)) (day_shares (table_of day (col numbers)))

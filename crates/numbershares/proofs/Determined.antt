@@ -1,13 +1,15 @@
 -- Two answers that meet the statement of `share_numbers` are equal, and so are the three lent lists afterwards.
+use Rattle.std.specs.Prelude.{Result}
 use mathlib.Core.Path.{◌≡◌}
 use mathlib.Core.List.{List}
 use Prim.Native.Nat.{ℕ}
 use Rattle.units.proofs.Determined.{determined}
 use Rattle.dayformat.specs.declared.day.Day.{Day}
-use Rattle.dayshares.specs.declared.Day.{Day as DayShares}
 use Rattle.numbershares.specs.Answer.{NumbersAnswered}
+use Rattle.units.specs.declared.refusal.Refusal.{Refusal}
+use Rattle.dayshares.specs.declared.Shares.{Shares}
 
-pub numbers_determined : {day : Day} {numbers firm auction lower_tier : List ℕ} {d₁ d₂ : DayShares} {f₁ f₂ a₁ a₂ l₁ l₂ : List ℕ}
+pub numbers_determined : {day : Day} {numbers firm auction lower_tier : List ℕ} {d₁ d₂ : Result Shares Refusal} {f₁ f₂ a₁ a₂ l₁ l₂ : List ℕ}
     → NumbersAnswered day numbers firm auction lower_tier d₁ f₁ a₁ l₁ → NumbersAnswered day numbers firm auction lower_tier d₂ f₂ a₂ l₂
     → (d₁ ≡ d₂) × (f₁ ≡ f₂) × (a₁ ≡ a₂) × (l₁ ≡ l₂)
 numbers_determined a b = (

@@ -1,4 +1,5 @@
 -- What the reader accepts, the day's shares accept.
+use Rattle.std.specs.Prelude.{Ok}
 use mathlib.Core.Path.{◌≡◌, refl, ap, sym, ◌∙◌}
 use mathlib.Core.Bool.{Bool, true, false, cond, not, true≢false}
 use mathlib.Core.List.{List}
@@ -10,7 +11,6 @@ use lib.ListN.{length}
 use Rattle.columns.specs.Column.{col, listed}
 use Rattle.columns.proofs.Firsts.{first-none}
 use Rattle.columns.proofs.Lists.{length-listed, col-listed}
-use Rattle.units.specs.declared.refusal.Check.{Check}
 use Rattle.units.specs.Bound.{most_gigajoules}
 use Rattle.units.specs.Refusals.{within, clear}
 use Rattle.units.proofs.Checks.{accepts-both, accepts-kept, accepts-clear, accepts-within}
@@ -56,7 +56,7 @@ module _ (day : Day) (numbers : List ℕ) (S : Sound day numbers) where
       kind_is : (column_in (body Shipper) place).high ≡ most_gigajoules
       kind_is = rw (le-ltb place 1 some, lt-ltb (place - 1) 5 (omega (arith, some, few)))
 
-  column-within : (place : ℕ) → 0 < place → place < 6 → within most_gigajoules (listed many (figure place)) ≡ Check.Accepted
+  column-within : (place : ℕ) → 0 < place → place < 6 → within most_gigajoules (listed many (figure place)) ≡ Ok tt
   column-within place some few =
       accepts-within most_gigajoules (listed many (figure place))
       (λ row l.
@@ -69,7 +69,7 @@ module _ (day : Day) (numbers : List ℕ) (S : Sound day numbers) where
   fed row l = neither _ _ (S.passes Shipper refl Test.Mdq row l)
 
   none-idle : (mdq schedule : ℕ) → ((row : ℕ) → row < many → idle (figure mdq row) (figure schedule row) ≡ false)
-      → clear (rows T) (first_idle (listed many (figure mdq)) (listed many (figure schedule))) 4 ≡ Check.Accepted
+      → clear (rows T) (first_idle (listed many (figure mdq)) (listed many (figure schedule))) 4 ≡ Ok tt
   none-idle mdq schedule fed =
       accepts-clear _ _ _
       (le_of_eq
@@ -86,7 +86,7 @@ module _ (day : Day) (numbers : List ℕ) (S : Sound day numbers) where
   few-rows : rows T ≤ 64
   few-rows = rw length-listed (S.few Shipper)
 
-  within_bound : bounds_check T ≡ Check.Accepted
+  within_bound : bounds_check T ≡ Ok tt
   unfolding bounds_check
   within_bound =
       accepts-both
@@ -105,7 +105,7 @@ module _ (day : Day) (numbers : List ℕ) (S : Sound day numbers) where
 
   -- with room for every table's rows
   pub shares_accept : (firm auction lower_tier : ℕ) → 64 ≤ firm → 64 ≤ auction → 64 ≤ lower_tier
-      → table_check T firm auction lower_tier ≡ Check.Accepted
+      → table_check T firm auction lower_tier ≡ Ok tt
   unfolding table_check
   shares_accept firm auction lower_tier f a l =
       accepts-both
@@ -119,12 +119,12 @@ module _ (day : Day) (numbers : List ℕ) (S : Sound day numbers) where
 
   -- so the shares accept a day's numbers
   pub numbers_accept : (firm auction lower_tier : ℕ) → 64 ≤ firm → 64 ≤ auction → 64 ≤ lower_tier
-      → numbers_check day numbers firm auction lower_tier ≡ Check.Accepted
+      → numbers_check day numbers firm auction lower_tier ≡ Ok tt
   unfolding numbers_check
   numbers_accept firm auction lower_tier f a l = accepts-both (counted day numbers S) (shares_accept firm auction lower_tier f a l)
 
   -- and each column can be had by itself
-  pub column-accepts : (place room : ℕ) → place < 6 → 64 ≤ room → column_check day.counts numbers place room ≡ Check.Accepted
+  pub column-accepts : (place room : ℕ) → place < 6 → 64 ≤ room → column_check day.counts numbers place room ≡ Ok tt
   unfolding column_check beyond
   column-accepts place room few l =
       accepts-both

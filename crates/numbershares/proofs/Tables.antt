@@ -1,4 +1,5 @@
 -- What is tested before the table is made is what the table's own tests ask first, so they refuse a day's numbers alike.
+use Rattle.std.specs.Prelude.{Ok, Err}
 use mathlib.Core.Path.{◌≡◌, refl, ap, sym, ◌∙◌}
 use mathlib.Core.List.{List, [], ◌∷◌}
 use Prim.Native.Nat.{ℕ, ◌≤◌, ◌<◌}
@@ -9,10 +10,8 @@ use lib.ListN.{length}
 use Rattle.columns.specs.Column.{col, listed}
 use Rattle.columns.proofs.Firsts.{first-same}
 use Rattle.columns.proofs.Lists.{length-listed, col-listed}
-use Rattle.units.specs.declared.refusal.Check.{Check}
-use Rattle.units.specs.declared.refusal.Check.TheVariants.{Accepted, Refused}
 use Rattle.units.specs.Bound.{most_gigajoules, most_rows}
-use Rattle.units.specs.Refusals.{◌then◌, keep, clear, within}
+use Rattle.units.specs.Refusals.{◌then◌, keep, clear, within, Check, first_refusal}
 use Rattle.units.proofs.Checks.{then_accepted, both-accepted, accepts-both, accepts-kept}
 use Rattle.daytable.specs.Table.{Table, rows}
 use Rattle.daytable.specs.Acceptance.{bounds_check, lengths_check, table_check}
@@ -33,17 +32,17 @@ use Rattle.numbershares.specs.Private.{columns_check, early_check}
 -- ---- chains of tests
 -- tests looked at as one, and tests looked at once more
 grouped : (a b c d e f g : Check) → (a then b then (c then d then e then f then g))
-    ≡ (Accepted then a then b then Accepted then c then d then e then f then g)
-unfolding ◌then◌
-grouped Accepted Accepted c d e f g = refl
-grouped Accepted (Refused x) c d e f g = refl
-grouped (Refused x) b c d e f g = refl
+    ≡ (Ok tt then a then b then Ok tt then c then d then e then f then g)
+unfolding first_refusal
+grouped (Ok _) (Ok _) c d e f g = refl
+grouped (Ok _) (Err x) c d e f g = refl
+grouped (Err x) b c d e f g = refl
 
-again : (a b c d e f : Check) → (a then (Accepted then a then b then c then d then e then f))
-    ≡ (Accepted then a then b then c then d then e then f)
-unfolding ◌then◌
-again Accepted b c d e f = refl
-again (Refused x) b c d e f = refl
+again : (a b c d e f : Check) → (a then (Ok tt then a then b then c then d then e then f))
+    ≡ (Ok tt then a then b then c then d then e then f)
+unfolding first_refusal
+again (Ok _) b c d e f = refl
+again (Err x) b c d e f = refl
 
 module _ (day : Day) (numbers : ℕ → ℕ) where
   abbrev many : ℕ
@@ -53,12 +52,12 @@ module _ (day : Day) (numbers : ℕ → ℕ) where
   list place = listed many (column day.counts numbers place)
 
   -- the columns of the table that they make are as long as one another
-  pub table-long : lengths_check (table_of day numbers) ≡ Accepted
+  pub table-long : lengths_check (table_of day numbers) ≡ Ok tt
   unfolding lengths_check
   table-long =
       accepts-both (accepts-both (accepts-both (accepts-both refl (as_long 2)) (as_long 3)) (as_long 4)) (as_long 5)
     where
-      as_long : (place : ℕ) → keep (eqb (length (list 1)) (length (list place))) 9 ≡ Accepted
+      as_long : (place : ℕ) → keep (eqb (length (list 1)) (length (list place))) 9 ≡ Ok tt
       as_long place = accepts-kept 9 (eq-eqb _ _ (length-listed _ _ ∙ sym (length-listed _ _)))
 
   -- a column's rows are tested as a list of gigajoules is
@@ -77,7 +76,7 @@ module _ (day : Day) (numbers : List ℕ) where
   T = table_of day (col numbers)
 
   abbrev counted : Check
-  counted = Accepted then keep (eqb (length numbers) (numbers_in day.counts)) 9 then counts_check day.counts
+  counted = Ok tt then keep (eqb (length numbers) (numbers_in day.counts)) 9 then counts_check day.counts
 
   abbrev free_flow : Check
   free_flow = keep (leb T.free_flow most_gigajoules) 3
@@ -88,12 +87,12 @@ module _ (day : Day) (numbers : List ℕ) where
   abbrev tested : ℕ → Check
   tested place = within most_gigajoules (list day (col numbers) place)
 
-  module _ (accepted : counted ≡ Accepted) where
+  module _ (accepted : counted ≡ Ok tt) where
     few-rows : many day (col numbers) ≤ most_rows
     few-rows = counts-accepted day.counts (both-accepted _ _ accepted).1 Shipper
 
     column_is : (place : ℕ) → 1 ≤ place → place < 6 → column_check day.counts numbers place most_rows ≡ tested place
-    unfolding column_check ◌then◌
+    unfolding column_check first_refusal
     column_is place h l =
         rw (accepted, accepts-kept 7 (le-leb _ most_rows few-rows)) (then_accepted _ ∙ rows-within day (col numbers) place h l)
 
@@ -115,7 +114,7 @@ module _ (day : Day) (numbers : List ℕ) where
         rw (columns_are, few-kept)
         (grouped free_flow compressor (tested 1) (tested 2) (tested 3) (tested 4) (tested 5))
       where
-        few-kept : keep (leb (rows T) most_rows) 3 ≡ Accepted
+        few-kept : keep (leb (rows T) most_rows) 3 ≡ Ok tt
         few-kept = accepts-kept 3 (le-leb (rows T) most_rows (rw length-listed few-rows))
 
   -- tested again by the table, they change nothing
@@ -126,11 +125,11 @@ module _ (day : Day) (numbers : List ℕ) where
 
     pub figures-first : (early_check day numbers then table_check T firm auction lower_tier)
         ≡ numbers_check day numbers firm auction lower_tier
-    unfolding early_check numbers_check ◌then◌
+    unfolding early_check numbers_check first_refusal
     figures-first = by counted refl
       where
         by : (c : Check) → counted ≡ c
             → (c then free_flow then compressor then columns_check day.counts numbers then table_check T firm auction lower_tier)
             ≡ (c then table_check T firm auction lower_tier)
-        by (Refused x) e = refl
-        by Accepted e = ap (λ found. found then table_check T firm auction lower_tier) (figures-are e) ∙ figures-again
+        by (Err x) e = refl
+        by (Ok _) e = ap (λ found. found then table_check T firm auction lower_tier) (figures-are e) ∙ figures-again

@@ -1,8 +1,7 @@
 -- What is tested before lists of gigajoules are made of a day's numbers.
-use Rattle.std.specs.Prelude.{List, ℕ, leb, eqb, length}
-use Rattle.units.specs.declared.refusal.Check.{Check}
+use Rattle.std.specs.Prelude.{List, ℕ, leb, eqb, length, Ok}
 use Rattle.units.specs.Bound.{most_gigajoules, most_rows}
-use Rattle.units.specs.Refusals.{◌then◌, keep}
+use Rattle.units.specs.Refusals.{◌then◌, keep, Check}
 use Rattle.dayformat.specs.declared.day.Day.{Day}
 use Rattle.dayformat.specs.declared.layout.Counts.{Counts}
 use Rattle.dayformat.specs.Layout.{numbers_in}
@@ -22,7 +21,7 @@ columns_check counts numbers =
 -- 9 and 3: the counts, the capacities, then each column
 unfoldable pub early_check : Day → List ℕ → Check
 early_check day numbers =
-    Check.Accepted
+    Ok tt
     then keep (eqb (length numbers) (numbers_in day.counts)) 9
     then counts_check day.counts
     then keep (leb day.head.free_flow.0 most_gigajoules) 3

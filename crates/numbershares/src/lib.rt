@@ -1,10 +1,9 @@
 // A day's shares from its numbers, opened.
 #![tactic(auto)]
 
-ghost use Rattle.std.specs.Prelude.{◌≡◌, replicate};
+ghost use Rattle.std.specs.Prelude.{◌≡◌, replicate, Ok};
 ghost use Rattle.columns.specs.Column.{col};
 ghost use Rattle.units.specs.Bound.{most_rows};
-ghost use Rattle.units.specs.declared.refusal.Check.TheVariants.{Accepted};
 ghost use Rattle.dayshares.specs.Answer.{SharesAnswered};
 ghost use Rattle.dayvalues.specs.Column.{place_of, column_check, with_column};
 ghost use Rattle.numbershares.specs.DayTable.{table_of};
@@ -12,42 +11,43 @@ ghost use Rattle.numbershares.specs.Answer.{NumbersAnswered};
 ghost use Rattle.numbershares.specs.Private.{columns_check, early_check};
 
 use dayformat::{Counts, Day, numbers_of};
-use dayshares::share_day;
+use dayshares::{Shares, share_day};
 use dayvalues::{ShipperColumn, check_column, shipper_column};
-use units::{Check, MOST_GIGAJOULES, MOST_ROWS};
+use units::{MOST_GIGAJOULES, MOST_ROWS, Refusal, keep};
 
 // The first test that one of the five columns fails, in tag 2's order.
-fn check_columns(counts: Counts, numbers: &[usize]) -> Check
+#[tactic(auto, unfolding(crate::specs::Private::columns_check, units::specs::Refusals::first_refusal))]
+fn check_columns(counts: Counts, numbers: &[usize]) -> Result<(), Refusal>
     ensures { result ≡ columns_check counts numbers.now }
 {
-    check_column(counts, numbers, ShipperColumn::FirmMdq, MOST_ROWS)
-        .then(check_column(counts, numbers, ShipperColumn::AuctionMdq, MOST_ROWS))
-        .then(check_column(counts, numbers, ShipperColumn::FirmSchedule, MOST_ROWS))
-        .then(check_column(counts, numbers, ShipperColumn::AuctionSchedule, MOST_ROWS))
-        .then(check_column(counts, numbers, ShipperColumn::LowerTierSchedule, MOST_ROWS))
+    check_column(counts, numbers, ShipperColumn::FirmMdq, MOST_ROWS)?;
+    check_column(counts, numbers, ShipperColumn::AuctionMdq, MOST_ROWS)?;
+    check_column(counts, numbers, ShipperColumn::FirmSchedule, MOST_ROWS)?;
+    check_column(counts, numbers, ShipperColumn::AuctionSchedule, MOST_ROWS)?;
+    check_column(counts, numbers, ShipperColumn::LowerTierSchedule, MOST_ROWS)
 }
 
 // 9 and 3: the counts and the capacities, which are single figures, come before the rows of any column.
-fn check_figures(day: Day, numbers: &[usize]) -> Check
+#[tactic(auto, unfolding(crate::specs::Private::early_check, units::specs::Refusals::first_refusal))]
+fn check_figures(day: Day, numbers: &[usize]) -> Result<(), Refusal>
     ensures { result ≡ early_check day numbers.now }
 {
     let head = day.head;
     let counts = day.counts;
-    Check::Accepted
-        .keep(numbers.len() == numbers_of(counts), 9)
-        .then(counts.check())
-        .keep(head.free_flow.0 <= MOST_GIGAJOULES.0, 3)
-        .keep(head.compressor.0 <= MOST_GIGAJOULES.0, 3)
-        .then(check_columns(counts, numbers))
+    keep(numbers.len() == numbers_of(counts), 9)?;
+    counts.check()?;
+    keep(head.free_flow.0 <= MOST_GIGAJOULES.0, 3)?;
+    keep(head.compressor.0 <= MOST_GIGAJOULES.0, 3)?;
+    check_columns(counts, numbers)
 }
 
 // A column of gigajoules, zeros past its rows.
 fn column_of(counts: Counts, numbers: &[usize], which: ShipperColumn) -> [u32; 64]
-    requires { column_check counts numbers.now (place_of which) most_rows ≡ Accepted }
+    requires { column_check counts numbers.now (place_of which) most_rows ≡ Ok tt }
     ensures { result ≡ with_column counts (col numbers.now) (place_of which) (replicate most_rows 0) }
 {
     let mut column = [0u32; MOST_ROWS];
-    shipper_column(counts, numbers, which, &mut column);
+    shipper_column(counts, numbers, which, &mut column).unwrap();
     column
 }
 
@@ -58,8 +58,8 @@ fn share_columns(
     firm: &mut [u32],
     auction: &mut [u32],
     lower_tier: &mut [u32],
-) -> dayshares::Day
-    requires { early_check day numbers.now ≡ Accepted }
+) -> Result<Shares, Refusal>
+    requires { early_check day numbers.now ≡ Ok tt }
     ensures { SharesAnswered (table_of day (col numbers.now))
         firm.old auction.old lower_tier.old
         result
@@ -94,15 +94,12 @@ pub fn share_numbers(
     firm: &mut [u32],
     auction: &mut [u32],
     lower_tier: &mut [u32],
-) -> dayshares::Day
+) -> Result<Shares, Refusal>
     ensures { NumbersAnswered day numbers.now
         firm.old auction.old lower_tier.old
         result
         firm.new auction.new lower_tier.new }
 {
-    let found = check_figures(day, numbers);
-    match found {
-        Check::Refused(refusal) => dayshares::Day::Refused(refusal),
-        Check::Accepted => share_columns(day, numbers, firm, auction, lower_tier),
-    }
+    check_figures(day, numbers)?;
+    share_columns(day, numbers, firm, auction, lower_tier)
 }

@@ -1,4 +1,5 @@
 -- What acceptance says, a routine at a time.
+use Rattle.std.specs.Prelude.{Ok}
 use mathlib.Core.Path.{◌≡◌}
 use mathlib.Core.List.{List, ◌++◌}
 use Prim.Native.Nat.{ℕ, ◌≤◌}
@@ -7,7 +8,6 @@ use lib.ListN.{length}
 use Rattle.columns.specs.Column.{col}
 use Rattle.units.specs.declared.Gigajoules.{Gigajoules}
 use Rattle.units.specs.declared.Megajoules.{Megajoules}
-use Rattle.units.specs.declared.refusal.Check.{Check}
 use Rattle.units.proofs.Checks.{both-accepted, kept, accepts-both}
 use Rattle.metered.specs.declared.Side.{Side}
 use Rattle.metered.specs.Hours.{bare_hours, delivered, received}
@@ -28,12 +28,12 @@ rows-compared hours excused low =
     (compared-within (delivered hours) (delivered excused) low.0, compared-within (received hours) (received excused) low.1)
 
 pub hourly-accepting : (m : Gigajoules) (hours excused : List (List Megajoules))
-    → excused_hourly_check m hours excused ≡ Check.Accepted
+    → excused_hourly_check m hours excused ≡ Ok tt
     → ComparedWithin hours excused
 unfolding hourly_check excused_hourly_check
 hourly-accepting m hours excused e = rows-compared hours excused (rows-within hours (both-accepted _ _ (both-accepted _ _ e).0).1)
 
-pub twelve_hourly-accepting : (p m : Gigajoules) (hours excused : List ℕ) → excused_twelve_hourly_check p m hours excused ≡ Check.Accepted
+pub twelve_hourly-accepting : (p m : Gigajoules) (hours excused : List ℕ) → excused_twelve_hourly_check p m hours excused ≡ Ok tt
     → (length hours ≡ 35) × (length excused ≡ 35) × Within (compared hours excused)
 unfolding excused_twelve_hourly_check
 twelve_hourly-accepting p m hours excused e =
@@ -46,7 +46,7 @@ twelve_hourly-accepting p m hours excused e =
       compared-within hours excused (hours-within hours within.1),
     )
 
-pub daily-accepting : (hours : List (List Megajoules)) (receipt delivery : Side) → daily_check hours receipt delivery ≡ Check.Accepted
+pub daily-accepting : (hours : List (List Megajoules)) (receipt delivery : Side) → daily_check hours receipt delivery ≡ Ok tt
     → RowsWithin hours × BackhaulWithin receipt delivery
 unfolding daily_check
 daily-accepting hours receipt delivery e =
@@ -57,7 +57,7 @@ pub record DayAccepting (D : ShipperDay) : Type 0 where
   pub rows : RowsWithin D.hours
   pub backhaul : BackhaulWithin D.receipt D.delivery
 
-pub day-accepting : (D : ShipperDay) → day_check D ≡ Check.Accepted → DayAccepting D
+pub day-accepting : (D : ShipperDay) → day_check D ≡ Ok tt → DayAccepting D
 unfolding day_check
 day-accepting D e =
     let today = both-accepted _ _ e in
@@ -81,7 +81,7 @@ module _ (D : ShipperDay) (E : ExcusedHours) where
     pub rows : ComparedWithin D.hours E.hours
     pub metered : DayAccepting D
 
-  pub excused-day-accepting : excused_day_check D E ≡ Check.Accepted → ExcusedAccepting
+  pub excused-day-accepting : excused_day_check D E ≡ Ok tt → ExcusedAccepting
   unfolding excused_day_check
   excused-day-accepting e =
       let a = day-accepting D (both-accepted _ _ (both-accepted _ _ e).0).0 in
@@ -93,11 +93,11 @@ module _ (D : ShipperDay) (E : ExcusedHours) where
       }
 
   -- what is excused within what was metered is accepted where the day is
-  pub excused-accepts : day_check D ≡ Check.Accepted
+  pub excused-accepts : day_check D ≡ Ok tt
       → ((hour : ℕ) → col (bare_hours E.yesterday) hour ≤ col (bare_hours D.yesterday) hour)
       → ((hour : ℕ) → col (delivered E.hours) hour ≤ col (delivered D.hours) hour)
       → ((hour : ℕ) → col (received E.hours) hour ≤ col (received D.hours) hour)
-      → excused_day_check D E ≡ Check.Accepted
+      → excused_day_check D E ≡ Ok tt
   unfolding excused_day_check
   excused-accepts accepted y d r =
       accepts-both (accepts-both accepted (accepts-excused (bare_hours D.yesterday) (bare_hours E.yesterday) y))

@@ -1,5 +1,6 @@
 -- C-14: where nothing is excused each routine's answer is that of before, refusals included, for every input: every hour is compared as
 -- it was metered, and the further tests accept.
+use Rattle.std.specs.Prelude.{Ok}
 use mathlib.Core.Path.{◌≡◌, refl}
 use mathlib.Core.List.{List, ◌++◌}
 use Prim.Native.Nat.{ℕ}
@@ -7,7 +8,6 @@ use lib.Dec.{eqb}
 use lib.ListN.{length, replicate}
 use Rattle.units.specs.declared.Gigajoules.{Gigajoules}
 use Rattle.units.specs.declared.Megajoules.{Megajoules}
-use Rattle.units.specs.declared.refusal.Check.{Check}
 use Rattle.units.specs.Refusals.{◌then◌, keep}
 use Rattle.units.proofs.Checks.{then_accepted, accepts-both, accepts-kept}
 use Rattle.metered.specs.Hours.{bare_hours, delivered, received}
@@ -20,7 +20,7 @@ use Rattle.overruns.specs.Excused.{excused_hourly_check, excused_hourly_answer}
 use Rattle.overruns.specs.Excused.{excused_twelve_hourly_check, excused_twelve_hourly_answer}
 use Rattle.overruns.specs.Excused.{nothing_excused, excused_day_check, excused_day_overruns, excused_day_answer}
 
-hours-accepted : (hours : List (List Megajoules)) → excused_hours_check hours nothing_excused.hours ≡ Check.Accepted
+hours-accepted : (hours : List (List Megajoules)) → excused_hours_check hours nothing_excused.hours ≡ Ok tt
 unfolding excused_hours_check
 hours-accepted hours =
     accepts-both (accepts-nothing (delivered hours) (replicate 24 0) (zero-hours 24))
@@ -41,10 +41,10 @@ pub twelve_hourly-nothing : (p m : Gigajoules) (hours : List ℕ)
     → excused_twelve_hourly_answer p m hours (replicate 35 0) ≡ twelve_hourly_answer p m hours
 unfolding excused_twelve_hourly_check twelve_hourly_check
 twelve_hourly-nothing p m hours =
-    let long : keep (eqb (length {A = ℕ} (replicate 35 0)) 35) 9 ≡ Check.Accepted = accepts-kept 9 refl in
+    let long : keep (eqb (length {A = ℕ} (replicate 35 0)) 35) 9 ≡ (Ok tt) = accepts-kept 9 refl in
     rw (
       long,
-      then_accepted (Check.Accepted then keep (eqb (length hours) 35) 9),
+      then_accepted (Ok tt then keep (eqb (length hours) 35) 9),
       accepts-nothing hours (replicate 35 0) (zero-hours 35),
       then_accepted (twelve_hourly_check p m hours),
       compared-all hours (replicate 35 0) (zero-hours 35),

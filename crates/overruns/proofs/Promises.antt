@@ -1,11 +1,11 @@
 -- The overruns of every answer are within what they can be: where the tests accept by the bounds of what is metered, else they are zero.
+use Rattle.std.specs.Prelude.{Result, Ok}
 use mathlib.Core.Path.{◌≡◌, refl}
 use mathlib.Core.List.{List}
 use Prim.Native.Nat.{ℕ, ◌≤◌}
 use native.Mathlib.Omega.{arith}
 use Rattle.units.specs.declared.Gigajoules.{Gigajoules}
 use Rattle.units.specs.declared.Megajoules.{Megajoules}
-use Rattle.units.specs.declared.refusal.Check.{Check}
 use Rattle.units.proofs.Verdicts.{every-figure}
 use Rattle.excesses.specs.Hourly.{most_hourly}
 use Rattle.excesses.specs.TwelveHourly.{most_twelve_hourly}
@@ -15,10 +15,7 @@ use Rattle.excesses.proofs.Greatest.{hourly-most, twelve_hourly-most, greatest_o
 use Rattle.metered.specs.declared.Side.{Side}
 use Rattle.metered.specs.Hours.{delivered, received}
 use Rattle.metered.proofs.Comparing.{compared-most}
-use Rattle.overruns.specs.declared.Overrun.{Overrun}
-use Rattle.overruns.specs.declared.daily.DailyOverruns.{DailyOverruns}
 use Rattle.overruns.specs.declared.day.Overruns.{Overruns}
-use Rattle.overruns.specs.declared.day.DayOverruns.{DayOverruns}
 use Rattle.overruns.specs.Answers.{overrun_verdict}
 use Rattle.overruns.specs.Daily.{both_daily, daily_check, daily_answer, daily_verdict}
 use Rattle.overruns.specs.Day.{ShipperDay, with_greatest, day_overruns, day_verdict}
@@ -28,21 +25,23 @@ use Rattle.overruns.specs.Promise.{DailyKept, DayKept}
 use Rattle.overruns.proofs.Accepting.{hourly-accepting, twelve_hourly-accepting, daily-accepting, excused-day-accepting}
 use Rattle.overruns.proofs.Days.{daily-most}
 use Rattle.overruns.proofs.Decided.{hourly_decided, twelve_hourly_decided, daily_decided, excused-day_decided}
+use Rattle.overruns.specs.declared.daily.Daily.{Daily}
+use Rattle.units.specs.declared.refusal.Refusal.{Refusal}
 
-pub hourly-kept : (m : Gigajoules) (hours excused : List (List Megajoules)) {over : Overrun}
+pub hourly-kept : (m : Gigajoules) (hours excused : List (List Megajoules)) {over : Result Megajoules Refusal}
     → over ≡ excused_hourly_answer m hours excused → (overrun_verdict over).figures.0 ≤ most_hourly
 hourly-kept m hours excused is =
     every-figure (λ over. over.0 ≤ most_hourly) (hourly_decided m hours excused is)
     (λ accepted. hourly-most m.0 _ _ (hourly-accepting m hours excused accepted)) (omega arith)
 
-pub twelve_hourly-kept : (p m : Gigajoules) (hours excused : List ℕ) {over : Overrun}
+pub twelve_hourly-kept : (p m : Gigajoules) (hours excused : List ℕ) {over : Result Megajoules Refusal}
     → over ≡ excused_twelve_hourly_answer p m hours excused → (overrun_verdict over).figures.0 ≤ most_twelve_hourly
 twelve_hourly-kept p m hours excused is =
     every-figure (λ over. over.0 ≤ most_twelve_hourly) (twelve_hourly_decided p m hours excused is)
     (λ accepted. twelve_hourly-most p.0 m.0 _ (twelve_hourly-accepting p m hours excused accepted).2) (omega arith)
 
 module _ (hours : List (List Megajoules)) (receipt delivery : Side) where
-  both-kept : daily_check hours receipt delivery ≡ Check.Accepted
+  both-kept : daily_check hours receipt delivery ≡ Ok tt
       → DailyKept (both_daily (delivered hours) (received hours) receipt delivery)
   both-kept accepted =
       let a = daily-accepting hours receipt delivery accepted in
@@ -51,7 +50,7 @@ module _ (hours : List (List Megajoules)) (receipt delivery : Side) where
         delivery = daily-most (delivered hours) delivery a.0.0 a.1.1;
       }
 
-  pub daily-kept : {over : DailyOverruns} → over ≡ daily_answer hours receipt delivery → DailyKept (daily_verdict over).figures
+  pub daily-kept : {over : Result Daily Refusal} → over ≡ daily_answer hours receipt delivery → DailyKept (daily_verdict over).figures
   daily-kept is = every-figure DailyKept (daily_decided hours receipt delivery is) both-kept (omega arith)
 
 -- ---- all four of a day
@@ -66,7 +65,7 @@ no_overruns = record {
 }
 
 module _ (D : ShipperDay) (E : ExcusedHours) where
-  all-kept : excused_day_check D E ≡ Check.Accepted → DayKept (excused_day_overruns D E)
+  all-kept : excused_day_check D E ≡ Ok tt → DayKept (excused_day_overruns D E)
   all-kept accepted =
       let a = excused-day-accepting D E accepted in
       let m = a.metered in
@@ -83,7 +82,7 @@ module _ (D : ShipperDay) (E : ExcusedHours) where
         chargeable = omega arith;
       }
 
-  pub excused-day-kept : {over : DayOverruns} → over ≡ excused_day_answer D E → DayKept (day_verdict over).figures
+  pub excused-day-kept : {over : Result Overruns Refusal} → over ≡ excused_day_answer D E → DayKept (day_verdict over).figures
   excused-day-kept is = every-figure DayKept (excused-day_decided D E is) all-kept no_overruns
 
 -- ---- gas excused never raises an overrun, and the daily ones count it

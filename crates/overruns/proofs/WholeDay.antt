@@ -1,11 +1,11 @@
 -- A shipper's whole day: the answer from what was found, and the four overruns as one.
+use Rattle.std.specs.Prelude.{Ok, Err}
 use mathlib.Core.Path.{◌≡◌, ap, sym, ◌∙◌}
 use mathlib.Core.List.{List, ◌++◌}
 use Prim.Native.Nat.{ℕ}
 use lib.ListN.{length}
 use Rattle.columns.specs.Column.{col}
 use Rattle.units.specs.declared.refusal.Refusal.{Refusal}
-use Rattle.units.specs.declared.refusal.Check.{Check}
 use Rattle.excesses.specs.TwelveHourly.{twelve_hourly}
 use Rattle.excesses.specs.Greatest.{greatest}
 use Rattle.metered.specs.Hours.{bare_hours, delivered, received}
@@ -13,11 +13,11 @@ use Rattle.metered.specs.Excused.{compared}
 use Rattle.metered.specs.Private.{Within, RowsWithin, ComparedWithin, BackhaulWithin}
 use Rattle.metered.proofs.Comparing.{length-compared}
 use Rattle.overruns.specs.declared.day.Overruns.{Overruns}
-use Rattle.overruns.specs.declared.day.DayOverruns.{DayOverruns}
 use Rattle.overruns.specs.Daily.{daily}
 use Rattle.overruns.specs.Day.{ShipperDay, with_greatest}
 use Rattle.overruns.specs.Excused.{ExcusedHours, excused_hourly, excused_day_check, excused_day_answer}
 use Rattle.overruns.proofs.Accepting.{excused-day-accepting}
+use Rattle.units.specs.Refusals.{Check}
 
 -- ---- the day is tested, its delivered hours joined to yesterday's, and so those excused
 pub record Tested : Type 0 where
@@ -33,10 +33,10 @@ pub record Tested : Type 0 where
 module _ (T : Tested) where
   open T use {D, E, both, joined, excused_both, excused_joined, found, checked}
 
-  pub day-refused : {x : Refusal} → found ≡ Check.Refused x → DayOverruns.Refused x ≡ excused_day_answer D E
+  pub day-refused : {x : Refusal} → found ≡ Err x → Err x ≡ excused_day_answer D E
   day-refused e = rw (← checked, e)
 
-  module _ (accepted : found ≡ Check.Accepted) {days : List ℕ} (less_days : days ≡ compared both excused_both) where
+  module _ (accepted : found ≡ Ok tt) {days : List ℕ} (less_days : days ≡ compared both excused_both) where
     pub day-fits : length both ≡ 35
         → ((length days ≡ 35) × Within days)
         × (ComparedWithin D.hours E.hours × (RowsWithin D.hours × BackhaulWithin D.receipt D.delivery))
@@ -51,7 +51,7 @@ module _ (T : Tested) where
         (twelve_hourly D.p.0 D.m.0 (col days))
         (daily (col (received D.hours)) D.receipt)
         (daily (col (delivered D.hours)) D.delivery)
-        → DayOverruns.Over x ≡ excused_day_answer D E
+        → Ok x ≡ excused_day_answer D E
     day-over e = rw (← checked, accepted, e, less_days, joined, excused_joined)
 
 -- ---- the four as one answer

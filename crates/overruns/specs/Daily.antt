@@ -1,16 +1,15 @@
 -- 01, "Overruns of a day"; cl. 7.4: the daily receipt and the daily delivery overrun.
-use Rattle.std.specs.Prelude.{List, ℕ, ◌+◌, ◌-◌, ◌*◌}
+use Rattle.std.specs.Prelude.{List, ℕ, ◌+◌, ◌-◌, ◌*◌, Result, Ok, Err}
 use Rattle.columns.specs.Column.{col}
 use Rattle.columns.specs.Sum.{sum}
 use Rattle.units.specs.declared.Megajoules.{Megajoules}
-use Rattle.units.specs.declared.refusal.Check.{Check}
-use Rattle.units.specs.Refusals.{◌then◌}
+use Rattle.units.specs.Refusals.{◌then◌, Check}
 use Rattle.units.specs.Verdict.{Verdict, accepting, refusing}
 use Rattle.metered.specs.declared.Side.{Side}
 use Rattle.metered.specs.Singles.{sides_check}
 use Rattle.metered.specs.Hours.{delivered, received, hours_check}
 use Rattle.overruns.specs.declared.daily.Daily.{Daily}
-use Rattle.overruns.specs.declared.daily.DailyOverruns.{DailyOverruns}
+use Rattle.units.specs.declared.refusal.Refusal.{Refusal}
 
 -- gas metered over the day, backhaul included, less 1,000 × (forward + backhaul schedule), never below zero
 abbrev pub daily : (ℕ → ℕ) → Side → ℕ
@@ -29,15 +28,15 @@ both_daily delivered received receipt delivery =
 unfoldable pub daily_check : List (List Megajoules) → Side → Side → Check
 daily_check hours receipt delivery = sides_check receipt delivery then hours_check hours
 
-abbrev pub daily_where : Check → Daily → DailyOverruns
-daily_where Check.Accepted over = DailyOverruns.Over over
-daily_where (Check.Refused x) over = DailyOverruns.Refused x
+abbrev pub daily_where : Check → Daily → Result Daily Refusal
+daily_where (Ok _) over = Ok over
+daily_where (Err x) over = Err x
 
-abbrev pub daily_answer : List (List Megajoules) → Side → Side → DailyOverruns
+abbrev pub daily_answer : List (List Megajoules) → Side → Side → Result Daily Refusal
 daily_answer hours receipt delivery =
     daily_where (daily_check hours receipt delivery) (both_daily (delivered hours) (received hours) receipt delivery)
 
 -- 01's number, place and figures of each case
-abbrev pub daily_verdict : DailyOverruns → Verdict Daily
-daily_verdict (DailyOverruns.Over over) = accepting over
-daily_verdict (DailyOverruns.Refused x) = refusing x (record { receipt = record { 0 = 0 }; delivery = record { 0 = 0 } })
+abbrev pub daily_verdict : Result Daily Refusal → Verdict Daily
+daily_verdict (Ok over) = accepting over
+daily_verdict (Err x) = refusing x (record { receipt = record { 0 = 0 }; delivery = record { 0 = 0 } })

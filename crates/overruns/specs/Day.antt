@@ -1,11 +1,10 @@
 -- 01, "Overruns of a day": all four of a shipper's day, and the greatest of them (cl. 7.2).
-use Rattle.std.specs.Prelude.{List, ◌++◌, ℕ}
+use Rattle.std.specs.Prelude.{List, ◌++◌, ℕ, Result, Ok, Err}
 use Rattle.columns.specs.Column.{col}
 use Rattle.units.specs.declared.Gigajoules.{Gigajoules}
 use Rattle.units.specs.declared.Megajoules.{Megajoules}
-use Rattle.units.specs.declared.refusal.Check.{Check}
 use Rattle.units.specs.Bound.{most_hour}
-use Rattle.units.specs.Refusals.{◌then◌, within}
+use Rattle.units.specs.Refusals.{◌then◌, within, Check}
 use Rattle.units.specs.Verdict.{Verdict, accepting, refusing}
 use Rattle.excesses.specs.Hourly.{hourly}
 use Rattle.excesses.specs.TwelveHourly.{twelve_hourly}
@@ -14,8 +13,8 @@ use Rattle.metered.specs.declared.Side.{Side}
 use Rattle.metered.specs.Singles.{mdqs_check, sides_check}
 use Rattle.metered.specs.Hours.{bare_hours, delivered, received, hours_check}
 use Rattle.overruns.specs.declared.day.Overruns.{Overruns}
-use Rattle.overruns.specs.declared.day.DayOverruns.{DayOverruns}
 use Rattle.overruns.specs.Daily.{daily}
+use Rattle.units.specs.declared.refusal.Refusal.{Refusal}
 
 -- a shipper's day: the figures of a tag 5 field, both sides' hours as two rows, delivered first
 pub record ShipperDay : Type 0 where
@@ -63,9 +62,9 @@ day_check D =
     then within most_hour (bare_hours D.yesterday)
     then hours_check D.hours
 
-abbrev pub day_where : Check → Overruns → DayOverruns
-day_where Check.Accepted over = DayOverruns.Over over
-day_where (Check.Refused x) over = DayOverruns.Refused x
+abbrev pub day_where : Check → Overruns → Result Overruns Refusal
+day_where (Ok _) over = Ok over
+day_where (Err x) over = Err x
 
 -- every metered hour is compared
 abbrev pub all_compared : Gigajoules → Gigajoules → List ℕ → List (List Megajoules) → Side → Side → Overruns
@@ -76,10 +75,10 @@ abbrev pub day_overruns : ShipperDay → Overruns
 day_overruns D =
     all_compared D.p D.m (bare_hours D.yesterday ++ delivered D.hours) D.hours D.receipt D.delivery
 
-abbrev pub day_answer : ShipperDay → DayOverruns
+abbrev pub day_answer : ShipperDay → Result Overruns Refusal
 day_answer D = day_where (day_check D) (day_overruns D)
 
 -- 01's number, place and figures of each case
-abbrev pub day_verdict : DayOverruns → Verdict Overruns
-day_verdict (DayOverruns.Over over) = accepting over
-day_verdict (DayOverruns.Refused x) = refusing x (with_greatest 0 0 0 0)
+abbrev pub day_verdict : Result Overruns Refusal → Verdict Overruns
+day_verdict (Ok over) = accepting over
+day_verdict (Err x) = refusing x (with_greatest 0 0 0 0)

@@ -3,24 +3,17 @@ ghost use Rattle.columns.specs.Column.{col};
 ghost use Rattle.units.specs.Bound.{most_backhaul};
 ghost use Rattle.metered.specs.Hours.{bare_hours, delivered, received};
 ghost use Rattle.metered.specs.Private.{Within, RowsWithin, BackhaulWithin};
-ghost use Rattle.overruns.specs.Daily.{daily, both_daily, daily_answer};
+ghost use Rattle.overruns.specs.Daily.{daily, both_daily, daily_check, daily_answer};
 
 use crate::gas::gas_of;
 use metered::{Side, bare_hours, examine_hours, examine_sides, excess};
-use units::{Check, Megajoules, Refusal, in_megajoules};
+use units::{Megajoules, Refusal, in_megajoules};
 
 // The daily overruns of both sides.
 #[derive(Clone, Copy)]
 pub struct Daily {
     pub receipt: Megajoules,
     pub delivery: Megajoules,
-}
-
-// Both, or why the call is refused.
-#[derive(Clone, Copy)]
-pub enum DailyOverruns {
-    Over(Daily),
-    Refused(Refusal),
 }
 
 // The gas metered on a side over the day, backhaul included, above its schedules.
@@ -47,13 +40,19 @@ pub fn both_daily(hours: [[Megajoules; 24]; 2], receipt: Side, delivery: Side) -
     }
 }
 
+// The first of the tests that the figures fail.
+#[tactic(auto, unfolding(crate::specs::Daily::daily_check, units::specs::Refusals::first_refusal))]
+fn examine(hours: [[Megajoules; 24]; 2], receipt: Side, delivery: Side) -> Result<(), Refusal>
+    ensures { result ≡ daily_check hours receipt delivery }
+{
+    examine_sides(receipt, delivery)?;
+    examine_hours(hours)
+}
+
 // The daily receipt and delivery overruns from both sides' hours, delivered first, and their single figures.
-pub fn daily_overruns(hours: [[Megajoules; 24]; 2], receipt: Side, delivery: Side) -> DailyOverruns
+pub fn daily_overruns(hours: [[Megajoules; 24]; 2], receipt: Side, delivery: Side) -> Result<Daily, Refusal>
     ensures { result ≡ daily_answer hours receipt delivery }
 {
-    let found = examine_sides(receipt, delivery).then(examine_hours(hours));
-    match found {
-        Check::Refused(refusal) => DailyOverruns::Refused(refusal),
-        Check::Accepted => DailyOverruns::Over(both_daily(hours, receipt, delivery)),
-    }
+    examine(hours, receipt, delivery)?;
+    Ok(both_daily(hours, receipt, delivery))
 }

@@ -5,6 +5,7 @@ ghost use Rattle.units.specs.Bound.{most_hour};
 ghost use Rattle.units.specs.Refusals.{◌then◌, within};
 ghost use Rattle.metered.specs.Singles.{mdqs_check, sides_check};
 ghost use Rattle.metered.specs.Hours.{delivered, received, hours_check};
+ghost use Rattle.metered.specs.Excused.{excused_check, excused_hours_check};
 ghost use Rattle.metered.specs.Private.{Within, RowsWithin, ComparedWithin, BackhaulWithin};
 ghost use Rattle.overruns.specs.Daily.{daily};
 ghost use Rattle.overruns.specs.Day.{with_greatest, day_answer};
@@ -17,7 +18,7 @@ use metered::{
     Side, both_days, examine_excused, examine_excused_hours, examine_hours, examine_mdqs,
     examine_sides,
 };
-use units::{Check, Gigajoules, MOST_HOUR, Megajoules, Refusal, greater};
+use units::{Gigajoules, MOST_HOUR, Megajoules, Refusal, greater, megajoules_within};
 
 // The four overruns of a shipper's day, and the greatest of them.
 #[derive(Clone, Copy)]
@@ -27,13 +28,6 @@ pub struct Overruns {
     pub daily_receipt: Megajoules,
     pub daily_delivery: Megajoules,
     pub greatest: Megajoules,
-}
-
-// All of them, or why the call is refused.
-#[derive(Clone, Copy)]
-pub enum DayOverruns {
-    Over(Overruns),
-    Refused(Refusal),
 }
 
 // All four overruns and the greatest: twelve-hourly from the 35 hours of both days as they are compared, hourly from today's metered and
@@ -74,6 +68,7 @@ fn four_overruns(
 }
 
 // The tests of a shipper's day but for what is excused, from yesterday's hours as a list.
+#[tactic(auto, unfolding(units::specs::Refusals::first_refusal))]
 fn examine_day(
     p: Gigajoules,
     m: Gigajoules,
@@ -81,14 +76,35 @@ fn examine_day(
     hours: [[Megajoules; 24]; 2],
     receipt: Side,
     delivery: Side,
-) -> Check
+) -> Result<(), Refusal>
     ensures { result ≡ (mdqs_check p m then sides_check receipt delivery then within most_hour yesterday.now
         then hours_check hours) }
 {
-    examine_mdqs(p, m)
-        .then(examine_sides(receipt, delivery))
-        .megajoules_within(yesterday, MOST_HOUR)
-        .then(examine_hours(hours))
+    examine_mdqs(p, m)?;
+    examine_sides(receipt, delivery)?;
+    megajoules_within(yesterday, MOST_HOUR)?;
+    examine_hours(hours)
+}
+
+// All of them, from the excused hours too.
+#[tactic(auto, unfolding(units::specs::Refusals::first_refusal))]
+fn examine_excused_day(
+    p: Gigajoules,
+    m: Gigajoules,
+    yesterday: &[u64],
+    hours: [[Megajoules; 24]; 2],
+    receipt: Side,
+    delivery: Side,
+    excused_yesterday: &[u64],
+    excused_hours: [[Megajoules; 24]; 2],
+) -> Result<(), Refusal>
+    ensures { result ≡ (mdqs_check p m then sides_check receipt delivery then within most_hour yesterday.now
+        then hours_check hours then excused_check yesterday.now excused_yesterday.now
+        then excused_hours_check hours excused_hours) }
+{
+    examine_day(p, m, yesterday, hours, receipt, delivery)?;
+    examine_excused(yesterday, excused_yesterday)?;
+    examine_excused_hours(hours, excused_hours)
 }
 
 // The overruns of a shipper's day of which nothing is excused, from a tag 5 field's figures: P, M, yesterday's 11 hours, today's two
@@ -100,19 +116,14 @@ pub fn metered_overruns(
     hours: [[Megajoules; 24]; 2],
     receipt: Side,
     delivery: Side,
-) -> DayOverruns
+) -> Result<Overruns, Refusal>
     ensures { result ≡ day_answer
         (record { p = p; m = m; yesterday = yesterday; hours = hours; receipt = receipt; delivery = delivery }) }
 {
     let both = both_days(yesterday, hours[0]);
-    let found = examine_day(p, m, &both[..11], hours, receipt, delivery);
-    match found {
-        Check::Refused(refusal) => DayOverruns::Refused(refusal),
-        Check::Accepted => {
-            let nothing = [[Megajoules(0); 24]; 2];
-            DayOverruns::Over(four_overruns(p, m, &both, hours, nothing, receipt, delivery))
-        }
-    }
+    examine_day(p, m, &both[..11], hours, receipt, delivery)?;
+    let nothing = [[Megajoules(0); 24]; 2];
+    Ok(four_overruns(p, m, &both, hours, nothing, receipt, delivery))
 }
 
 // The same with what is excused of the hours (cl. 5.4).
@@ -125,29 +136,31 @@ pub fn overruns_of_day(
     delivery: Side,
     excused_yesterday: [Megajoules; 11],
     excused_hours: [[Megajoules; 24]; 2],
-) -> DayOverruns
+) -> Result<Overruns, Refusal>
     ensures { result ≡ excused_day_answer
         (record { p = p; m = m; yesterday = yesterday; hours = hours; receipt = receipt; delivery = delivery })
         (record { yesterday = excused_yesterday; hours = excused_hours }) }
 {
     let both = both_days(yesterday, hours[0]);
     let excused_both = both_days(excused_yesterday, excused_hours[0]);
-    let found = examine_day(p, m, &both[..11], hours, receipt, delivery)
-        .then(examine_excused(&both[..11], &excused_both[..11]))
-        .then(examine_excused_hours(hours, excused_hours));
-    match found {
-        Check::Refused(refusal) => DayOverruns::Refused(refusal),
-        Check::Accepted => {
-            let compared = compared_days(&both, &excused_both);
-            DayOverruns::Over(four_overruns(
-                p,
-                m,
-                &compared,
-                hours,
-                excused_hours,
-                receipt,
-                delivery,
-            ))
-        }
-    }
+    examine_excused_day(
+        p,
+        m,
+        &both[..11],
+        hours,
+        receipt,
+        delivery,
+        &excused_both[..11],
+        excused_hours,
+    )?;
+    let compared = compared_days(&both, &excused_both);
+    Ok(four_overruns(
+        p,
+        m,
+        &compared,
+        hours,
+        excused_hours,
+        receipt,
+        delivery,
+    ))
 }

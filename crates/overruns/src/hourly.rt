@@ -1,11 +1,10 @@
 ghost use Rattle.std.specs.Prelude.{◌≡◌};
 ghost use Rattle.metered.specs.Private.{ComparedWithin};
-ghost use Rattle.overruns.specs.Excused.{excused_hourly, excused_hourly_answer};
+ghost use Rattle.overruns.specs.Excused.{excused_hourly, excused_hourly_check, excused_hourly_answer};
 
-use crate::Overrun;
 use crate::gas::thousandths;
 use metered::{examine_excused_hours, examine_hours, excess};
-use units::{Check, Gigajoules, MOST_GIGAJOULES, Megajoules, greater};
+use units::{Gigajoules, MOST_GIGAJOULES, Megajoules, Refusal, greater, keep};
 
 // The sum over the hours of the greater of the two excesses, each of what was metered less what is excused.
 pub fn hourly(
@@ -31,20 +30,28 @@ pub fn hourly(
     Megajoules(total)
 }
 
+// The first of the tests that the figures fail.
+#[tactic(auto, unfolding(crate::specs::Hourly::hourly_check, crate::specs::Excused::excused_hourly_check, units::specs::Refusals::first_refusal))]
+fn examine(
+    m: Gigajoules,
+    hours: [[Megajoules; 24]; 2],
+    excused: [[Megajoules; 24]; 2],
+) -> Result<(), Refusal>
+    ensures { result ≡ excused_hourly_check m hours excused }
+{
+    keep(m.0 <= MOST_GIGAJOULES.0, 3)?;
+    examine_hours(hours)?;
+    examine_excused_hours(hours, excused)
+}
+
 // The hourly overrun of a day from M, today's Adjusted MDQ, and both sides' hours, delivered first, metered and excused (cl. 5.4).
 pub fn hourly_overrun(
     m: Gigajoules,
     hours: [[Megajoules; 24]; 2],
     excused: [[Megajoules; 24]; 2],
-) -> Overrun
+) -> Result<Megajoules, Refusal>
     ensures { result ≡ excused_hourly_answer m hours excused }
 {
-    let found = Check::Accepted
-        .keep(m.0 <= MOST_GIGAJOULES.0, 3)
-        .then(examine_hours(hours))
-        .then(examine_excused_hours(hours, excused));
-    match found {
-        Check::Refused(refusal) => Overrun::Refused(refusal),
-        Check::Accepted => Overrun::Over(hourly(m, hours, excused)),
-    }
+    examine(m, hours, excused)?;
+    Ok(hourly(m, hours, excused))
 }

@@ -4,12 +4,11 @@ ghost use Rattle.columns.specs.Sum.{sum};
 ghost use Rattle.metered.specs.Private.{Within};
 ghost use Rattle.metered.specs.Excused.{compared};
 ghost use Rattle.excesses.specs.TwelveHourly.{period_limit, twelve_hourly};
-ghost use Rattle.overruns.specs.Excused.{excused_twelve_hourly_answer};
+ghost use Rattle.overruns.specs.Excused.{excused_twelve_hourly_check, excused_twelve_hourly_answer};
 
-use crate::Overrun;
 use crate::gas::{gas_of, thousandths};
 use metered::{examine_excused, examine_mdqs, excess};
-use units::{Check, Gigajoules, MOST_HOUR, Megajoules};
+use units::{Gigajoules, MOST_HOUR, Megajoules, Refusal, keep, megajoules_within};
 
 // The limit of the period that ends with hour h of today, whose first 12 − h hours are yesterday's.
 fn period_limit(p: Gigajoules, m: Gigajoules, h: u64) -> Megajoules
@@ -67,6 +66,18 @@ pub fn compared_days(metered: &[u64], excused: &[u64]) -> [u64; 35]
     hours
 }
 
+// The first of the tests that the figures fail.
+#[tactic(auto, unfolding(crate::specs::Excused::excused_twelve_hourly_check, units::specs::Refusals::first_refusal))]
+fn examine(p: Gigajoules, m: Gigajoules, hours: &[u64], excused: &[u64]) -> Result<(), Refusal>
+    ensures { result ≡ excused_twelve_hourly_check p m hours.now excused.now }
+{
+    keep(hours.len() == 35, 9)?;
+    keep(excused.len() == 35, 9)?;
+    examine_mdqs(p, m)?;
+    megajoules_within(hours, MOST_HOUR)?;
+    examine_excused(hours, excused)
+}
+
 // The twelve-hourly overrun from P and M, yesterday's and today's Adjusted MDQ, and 35 delivered hours, yesterday's 11 first, metered
 // and excused (cl. 5.4).
 pub fn twelve_hourly_overrun(
@@ -74,20 +85,10 @@ pub fn twelve_hourly_overrun(
     m: Gigajoules,
     hours: &[u64],
     excused: &[u64],
-) -> Overrun
+) -> Result<Megajoules, Refusal>
     ensures { result ≡ excused_twelve_hourly_answer p m hours.now excused.now }
 {
-    let found = Check::Accepted
-        .keep(hours.len() == 35, 9)
-        .keep(excused.len() == 35, 9)
-        .then(examine_mdqs(p, m))
-        .megajoules_within(hours, MOST_HOUR)
-        .then(examine_excused(hours, excused));
-    match found {
-        Check::Refused(refusal) => Overrun::Refused(refusal),
-        Check::Accepted => {
-            let compared = compared_days(hours, excused);
-            Overrun::Over(twelve_hourly(p, m, &compared))
-        }
-    }
+    examine(p, m, hours, excused)?;
+    let compared = compared_days(hours, excused);
+    Ok(twelve_hourly(p, m, &compared))
 }

@@ -4,7 +4,6 @@ use mathlib.Core.List.{List}
 use Prim.Native.Nat.{ℕ}
 use native.Mathlib.Omega.{arith}
 use Rattle.columns.specs.Column.{col}
-use Rattle.units.specs.declared.refusal.Check.{Check}
 use Rattle.units.specs.Verdict.{of_check, Decided}
 use Rattle.units.proofs.Verdicts.{AllNumbered, none, ◌and◌, kept_by, checked}
 use Rattle.dayformat.specs.declared.form.Tag.TheVariants.{Entry}
@@ -12,6 +11,7 @@ use Rattle.dayruns.specs.Run.{rows_of}
 use Rattle.dayruns.specs.Walk.{walk_after}
 use Rattle.dayruns.proofs.Decided.{Known, walk_numbered, run-known, ended-has}
 use Rattle.pointentries.specs.Entries.{entries, entry_run, unread, entry_walk, list_check, asked, entries_check}
+use Rattle.units.specs.Refusals.{Check}
 
 entries-known : (list : List ℕ) (side : ℕ) → Known (entry_walk list side).fault
 entries-known list side =

@@ -1,4 +1,5 @@
 -- A list of one side's entries: what its walk finds, and what acceptance says of it.
+use Rattle.std.specs.Prelude.{Ok}
 use mathlib.Core.Path.{◌≡◌, refl, ap, sym, ◌∙◌}
 use mathlib.Core.List.{List, []}
 use Prim.Native.Nat.{ℕ, zero, suc, ◌*◌, ◌≤◌, ◌<◌}
@@ -8,9 +9,7 @@ use lib.ListN.{length, replicate, length-replicate}
 use Rattle.columns.specs.Column.{col}
 use Rattle.columns.specs.Sum.{sum}
 use Rattle.columns.proofs.Firsts.{first_le, first-before}
-use Rattle.units.specs.declared.refusal.Check.{Check}
-use Rattle.units.specs.declared.refusal.Check.TheVariants as Check
-use Rattle.units.specs.Refusals.{◌then◌, keep}
+use Rattle.units.specs.Refusals.{◌then◌, keep, Check}
 use Rattle.units.proofs.Checks.{both-accepted}
 use Rattle.dayformat.specs.declared.form.Tag.TheVariants as Tag
 use Rattle.dayformat.proofs.Sizes.{entry-size}
@@ -84,7 +83,7 @@ module _ (list : List ℕ) (side : ℕ) where
     pub whole : length list ≡ entry_rows list side * 12
 
   module _ (point : ℕ) where
-    pub accepted-sound : list_check list side point ≡ Check.Accepted → SoundList
+    pub accepted-sound : list_check list side point ≡ Ok tt → SoundList
     unfolding list_check
     accepted-sound e =
         let none = faultless (entry_walk list side) (both-accepted _ _ e).1 in
@@ -92,7 +91,7 @@ module _ (list : List ℕ) (side : ℕ) where
         record { faultless = none; whole = omega (arith, ends, rows-within, place_is (entry_rows list side)) }
 
     pub list-checked : {after : List ℕ} {walk : Walk} {check : Check} → EntriesWalked list side after walk
-        → check ≡ (Check.Accepted then keep (leb side 1) 3 then keep (ltb 0 point) 3 then file_check walk)
+        → check ≡ (Ok tt then keep (leb side 1) 3 then keep (ltb 0 point) 3 then file_check walk)
         → ListChecked list side point after check
     unfolding list_check
     list-checked {check = check} W e =

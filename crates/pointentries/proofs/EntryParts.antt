@@ -1,4 +1,5 @@
 -- The part of a list that a point's entries are: where it starts, how long it is, what it holds, and that it is the only one.
+use Rattle.std.specs.Prelude.{Ok, Err}
 use mathlib.Core.Path.{◌≡◌, refl, ap, ◌∙◌}
 use mathlib.Core.Bool.{Bool, not}
 use mathlib.Core.List.{List}
@@ -14,8 +15,6 @@ use Rattle.columns.specs.First.{first}
 use Rattle.columns.proofs.Firsts.{first-same, first_le, first-before, first-marked, first-none}
 use Rattle.columns.proofs.Joined.{col-joined}
 use Rattle.units.specs.declared.refusal.Refusal.{Refusal}
-use Rattle.units.specs.declared.refusal.Check.{Check}
-use Rattle.units.specs.declared.refusal.Check.TheVariants as Check
 use Rattle.units.proofs.Determined.{determined}
 use Rattle.dayformat.specs.declared.form.Tag.TheVariants as Tag
 use Rattle.dayformat.specs.Format.{field_size}
@@ -25,6 +24,7 @@ use Rattle.dayruns.proofs.Running.{length-row}
 use Rattle.pointentries.specs.Entries.{entries, entry_rows, list_check, is_of, first_entry, many_entries, start_in, long_in, asked, entries_check, Part}
 use Rattle.pointentries.proofs.EntryKeys.{points_ordered}
 use Rattle.pointentries.proofs.EntryLists.{place_is, rows_few, SoundList, accepted-sound}
+use Rattle.units.specs.Refusals.{Check}
 
 -- ---- side 1 asks for the delivery list, any other for the receipt list
 pub asked-delivery {ℓ} : {X : Type ℓ} (side : ℕ) (receipt delivery : X) → side ≡ 1 → asked side receipt delivery ≡ delivery
@@ -49,7 +49,7 @@ module _ (list : List ℕ) (side point : ℕ) where
   long = long_in list side point
 
   -- ---- a faulty list has the empty part at its end
-  module _ {refusal : Refusal} (refused : list_check list side point ≡ Check.Refused refusal) where
+  module _ {refusal : Refusal} (refused : list_check list side point ≡ Err refusal) where
     pub refused-start : length list ≡ start
     unfolding start_in
     refused-start = rw refused
@@ -78,7 +78,7 @@ module _ (list : List ℕ) (side point : ℕ) where
   abbrev many : ℕ
   many = many_entries list side point
 
-  module _ (accepted : list_check list side point ≡ Check.Accepted) where
+  module _ (accepted : list_check list side point ≡ Ok tt) where
     sound : SoundList list side
     sound = accepted-sound list side point accepted
 
@@ -182,8 +182,8 @@ module _ (list : List ℕ) (side point : ℕ) where
   part-within = by (list_check list side point) refl
     where
       by : (found : Check) → list_check list side point ≡ found → start + long ≤ length list
-      by Check.Accepted e = accepted-within e
-      by (Check.Refused refusal) e = omega (arith, refused-start e, refused-long e)
+      by (Ok _) e = accepted-within e
+      by (Err refusal) e = omega (arith, refused-start e, refused-long e)
 
 -- ---- two answers that meet a statement are equal: two parts in their bytes and in where they stand
 pub part_determined : {list p₁ p₂ : Bor (List ℕ)} {start long : ℕ} → Part list p₁ start long → Part list p₂ start long

@@ -1,11 +1,9 @@
 -- 01, "An hour at a point": the entries of one point, a part of the receipt list or of the delivery list.
-use Rattle.std.specs.Prelude.{◌≡◌, Bool, not, List, ℕ, zero, suc, ◌+◌, ◌-◌, ◌*◌, leb, ltb, eqb, length, take, drop}
+use Rattle.std.specs.Prelude.{◌≡◌, Bool, not, List, ℕ, zero, suc, ◌+◌, ◌-◌, ◌*◌, leb, ltb, eqb, length, take, drop, Ok}
 use Rattle.std.specs.Borrow.{Bor}
 use Rattle.columns.specs.Column.{col}
 use Rattle.columns.specs.First.{first}
-use Rattle.units.specs.declared.refusal.Check.{Check}
-use Rattle.units.specs.declared.refusal.Check.TheVariants as Check
-use Rattle.units.specs.Refusals.{accepted_or, ◌then◌, keep}
+use Rattle.units.specs.Refusals.{accepted_or, ◌then◌, keep, Check}
 use Rattle.dayformat.specs.declared.form.Tag.TheVariants as Tag
 use Rattle.dayformat.specs.Format.{field_size}
 use Rattle.dayformat.specs.Layout.{no_rows}
@@ -35,7 +33,7 @@ entry_walk list side = ended list (walk_after unread Tag.Entry (entry_run list s
 -- 3 for a side above 1 or point 0, before the list; then the list's first faulty field
 unfoldable pub list_check : List ℕ → ℕ → ℕ → Check
 list_check list side point =
-    Check.Accepted
+    Ok tt
     then keep (leb side 1) 3
     then keep (ltb 0 point) 3
     then file_check (entry_walk list side)

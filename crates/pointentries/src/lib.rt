@@ -1,16 +1,18 @@
 // The entries of a point: a part of the receipt list or of the delivery list, opened.
 #![tactic(auto)]
 
-ghost use Rattle.std.specs.Prelude.{◌≡◌, not, ◌+◌, ◌-◌, ◌*◌, ◌≤◌, eqb, replicate};
+ghost use Rattle.std.specs.Prelude.{◌≡◌, not, ◌+◌, ◌-◌, ◌*◌, ◌≤◌, eqb, leb, ltb, replicate, Ok};
 ghost use Rattle.columns.specs.Column.{col};
 ghost use Rattle.columns.specs.First.{first};
+ghost use Rattle.units.specs.Refusals.{◌then◌, keep};
+ghost use Rattle.dayruns.specs.Walk.{file_check};
 ghost use Rattle.pointentries.specs.Entries.{asked, entries_check, part_start, part_long, start_in, long_in, Part};
 ghost use Rattle.pointentries.specs.Private.{EntriesWalked, ListChecked, most_entry_numbers};
 
 use dayformat::{ENTRY_COLUMNS, ENTRY_FIELD, MOST_ENTRIES, NO_ROWS, Tag};
 use dayrows::{Source, number_of};
 use dayruns::{Walk, run_fields};
-use units::Check;
+use units::{Refusal, keep};
 
 // How many numbers a list has at most.
 const MOST_NUMBERS: usize = MOST_ENTRIES as usize * ENTRY_COLUMNS;
@@ -30,19 +32,26 @@ fn walk_entries(list: &[u8], side: usize, numbers: &mut [usize]) -> Walk
 }
 
 // What is asked, then the list. The rows of a sound list go into the numbers.
-fn check_list(list: &[u8], side: u8, point: u16, numbers: &mut [usize]) -> Check
+fn check_list(list: &[u8], side: u8, point: u16, numbers: &mut [usize]) -> Result<(), Refusal>
     requires { numbers.old ≡ replicate most_entry_numbers 0 }
     ensures { ListChecked list.now side point numbers.new result }
 {
     let walk = walk_entries(list, side as usize, numbers);
-    Check::Accepted
-        .keep(side <= 1, 3)
-        .keep(0 < point, 3)
-        .then(walk.check())
+    examine(walk, side, point)
+}
+
+// What is asked, then the list as it was walked through.
+#[tactic(auto, unfolding(units::specs::Refusals::first_refusal))]
+fn examine(walk: Walk, side: u8, point: u16) -> Result<(), Refusal>
+    ensures { result ≡ (Ok tt then keep (leb side 1) 3 then keep (ltb 0 point) 3 then file_check walk) }
+{
+    keep(side <= 1, 3)?;
+    keep(0 < point, 3)?;
+    walk.check()
 }
 
 // The first of 01's tests that the list asked for, or what is asked, fails.
-pub fn check_entries(receipt: &[u8], delivery: &[u8], side: u8, point: u16) -> Check
+pub fn check_entries(receipt: &[u8], delivery: &[u8], side: u8, point: u16) -> Result<(), Refusal>
     ensures { result ≡ entries_check receipt.now delivery.now side point }
 {
     let mut numbers = [0usize; MOST_NUMBERS];
@@ -98,13 +107,12 @@ fn part_of<'a>(list: &'a [u8], side: u8, point: u16) -> &'a [u8]
         (long_in list.now side point) }
 {
     let mut numbers = [0usize; MOST_NUMBERS];
-    let found = check_list(list, side, point, &mut numbers);
-    match found {
-        Check::Refused(_) => {
+    match check_list(list, side, point, &mut numbers) {
+        Err(_) => {
             let end = list.len();
             &list[end..end]
         }
-        Check::Accepted => {
+        Ok(()) => {
             let rows = list.len() / ENTRY_FIELD;
             let row = first_entry(&numbers, rows, point);
             let many = many_entries(&numbers, rows, point, row);

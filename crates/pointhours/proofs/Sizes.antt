@@ -1,4 +1,5 @@
 -- How long a point's lines can be: its hour is shared among at most 64, and a refusal has one of 01's numbers and one of 64 rows.
+use Rattle.std.specs.Prelude.{Ok, Err}
 use mathlib.Core.Path.{◌≡◌, refl}
 use mathlib.Core.List.{List, [], ◌∷◌}
 use Prim.Native.Nat.{ℕ, ◌≤◌, ◌<◌}
@@ -8,8 +9,6 @@ use lib.ListN.{length}
 use Rattle.columns.specs.Column.{listed}
 use Rattle.columns.proofs.Lists.{length-listed}
 use Rattle.units.specs.declared.refusal.Refusal.{Refusal}
-use Rattle.units.specs.declared.refusal.Check.{Check}
-use Rattle.units.specs.declared.refusal.Check.TheVariants.{Accepted, Refused}
 use Rattle.units.specs.Bound.{most_hour}
 use Rattle.pointshares.specs.Share.{hour_shares}
 use Rattle.pointshares.specs.Answer.{hour_check}
@@ -20,6 +19,7 @@ use Rattle.lines.specs.Line.{line, decimals, refused}
 use Rattle.lines.proofs.Sizes.{line-none, line-within, figure-within}
 use Rattle.lines.proofs.Texts.{texts_most}
 use Rattle.pointhours.specs.HourText.{share_lines, hour_lines}
+use Rattle.units.specs.Refusals.{Check}
 
 -- ---- the hour's own refusal
 refused-most : (refusal : Refusal) → refusal.number ≤ 11 → refusal.place ≤ 63 → length (refused refusal) ≤ 15
@@ -42,7 +42,7 @@ module _ (capacity many : ℕ) (shipper entitlement mdq : ℕ → ℕ) (named : 
 
   lines-most : (found : Check) → hour_check capacity E M (length E) ≡ found
       → length (share_lines found many shipper (hour_shares E M capacity)) ≤ 1_088
-  lines-most Accepted e =
+  lines-most (Ok tt) e =
       let R = (accepting capacity E M (length E) e).shareable in
       omega (
         arith,
@@ -51,7 +51,7 @@ module _ (capacity many : ℕ) (shipper entitlement mdq : ℕ → ℕ) (named : 
         R.rows.few,
         length-listed many entitlement,
       )
-  lines-most (Refused refusal) e =
+  lines-most (Err refusal) e =
       omega (
         arith,
         refused-most refusal (hour_numbered capacity E M (length E) refusal e).most (hour-placed capacity E M (length E) refusal e),

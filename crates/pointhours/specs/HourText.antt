@@ -1,8 +1,6 @@
 -- The lines of a point's entries: shipper and share; or the point's own refusal in their place.
-use Rattle.std.specs.Prelude.{List, [], ◌∷◌, ℕ, length}
+use Rattle.std.specs.Prelude.{List, [], ◌∷◌, ℕ, length, Ok, Err}
 use Rattle.columns.specs.Column.{listed, joined}
-use Rattle.units.specs.declared.refusal.Check.{Check}
-use Rattle.units.specs.declared.refusal.Check.TheVariants as Check
 use Rattle.pointshares.specs.Share.{hour_shares}
 use Rattle.pointshares.specs.Answer.{hour_check}
 use Rattle.lines.specs.Line.{line, decimals, refused}
@@ -11,11 +9,12 @@ use Rattle.dayformat.specs.declared.layout.Counts.{Counts}
 use Rattle.dayvalues.specs.declared.column.ShipperColumn.TheVariants.{FirmMdq}
 use Rattle.dayvalues.specs.Row.{row_beginning}
 use Rattle.dayvalues.specs.Column.{place_of, column}
+use Rattle.units.specs.Refusals.{Check}
 
 -- a line for each of so many entries, shipper and share; or the point's own refusal in their place
 abbrev pub share_lines : Check → ℕ → (ℕ → ℕ) → (ℕ → ℕ) → List ℕ
-share_lines Check.Accepted many shipper share = joined many (λ entry. line (decimals (shipper entry ∷ share entry ∷ [])))
-share_lines (Check.Refused refusal) many shipper share = refused refusal
+share_lines (Ok _) many shipper share = joined many (λ entry. line (decimals (shipper entry ∷ share entry ∷ [])))
+share_lines (Err refusal) many shipper share = refused refusal
 
 -- an hour at the point, shared among so many entries: their shippers, reserved entitlements and firm MDQs
 abbrev pub hour_lines : ℕ → ℕ → (ℕ → ℕ) → (ℕ → ℕ) → (ℕ → ℕ) → List ℕ

@@ -1,8 +1,7 @@
 // An hour at a point, shared and laid as lines.
-ghost use Rattle.std.specs.Prelude.{◌≡◌, ◌^◌, ◌≤◌, length};
+ghost use Rattle.std.specs.Prelude.{◌≡◌, ◌^◌, ◌≤◌, length, Ok};
 ghost use Rattle.columns.specs.Column.{col};
 ghost use Rattle.text.specs.Text.{Laid};
-ghost use Rattle.units.specs.declared.refusal.Check.TheVariants.{Accepted};
 ghost use Rattle.pointhours.specs.HourText.{share_lines};
 ghost use Rattle.pointhours.specs.Parts.{entries_in, shipper_in, most_entries, part_lines};
 
@@ -10,14 +9,14 @@ use crate::entries::{MOST_ENTRIES, entitlements_in, entries_in, mdqs_in, shipper
 use columns::lesser;
 use dayformat::Counts;
 use lines::{put_line, put_refusal};
-use pointshares::{Hour, share_hour};
+use pointshares::share_hour;
 use units::Megajoules;
 
 // A line for each entry: its shipper and its share.
 fn put_shares(part: &[u8], shares: &[u64], text: &mut [u8], at: usize) -> usize
     requires { (length shares.now ≡ most_entries) × (at ≤ length text.old) }
     ensures { (Laid
-        (share_lines Accepted (entries_in part.now) (shipper_in part.now) (col shares.now))
+        (share_lines (Ok tt) (entries_in part.now) (shipper_in part.now) (col shares.now))
         text.old at result text.new) × (result ≤ 2 ^ 20) }
 {
     let many = entries_in(part);
@@ -47,9 +46,8 @@ pub fn put_hour(
     let entitlements = entitlements_in(part);
     let mdqs = mdqs_in(counts, numbers, part);
     let mut shares = [0u64; MOST_ENTRIES];
-    let hour = share_hour(capacity, &entitlements[..many], &mdqs[..many], &mut shares);
-    match hour {
-        Hour::Refused(refusal) => put_refusal(refusal, text, at),
-        Hour::Shared(_) => put_shares(part, &shares, text, lesser(at, text.len())),
+    match share_hour(capacity, &entitlements[..many], &mdqs[..many], &mut shares) {
+        Err(refusal) => put_refusal(refusal, text, at),
+        Ok(_) => put_shares(part, &shares, text, lesser(at, text.len())),
     }
 }

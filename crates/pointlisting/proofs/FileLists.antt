@@ -1,4 +1,5 @@
 -- A file's tag 4 bytes, cut out and parted where side 1 begins, are the lists that a day's points are read from.
+use Rattle.std.specs.Prelude.{Ok}
 use mathlib.Core.Path.{◌≡◌, refl, ap, ap₂, sym, ◌∙◌}
 use mathlib.Core.List.{List}
 use Prim.Native.Nat.{ℕ, ◌+◌, ◌-◌, ◌≤◌}
@@ -11,7 +12,6 @@ use Rattle.dayformat.specs.declared.day.Day.{Day}
 use Rattle.dayformat.specs.declared.form.Tag.TheVariants.{Entry}
 use Rattle.dayformat.specs.Layout.{numbers_in, run_size}
 use Rattle.dayformat.specs.DayBytes.{fields}
-use Rattle.dayfile.specs.declared.reader.Reading.TheVariants as Reading
 use Rattle.dayfile.specs.File.{walked}
 use Rattle.dayfile.specs.Answer.{ReadingAnswered, Reads}
 use Rattle.dayfile.proofs.FileAgain.{read-sound}
@@ -22,10 +22,10 @@ use Rattle.entrylists.proofs.Splitting.{split-within}
 use Rattle.pointlisting.specs.Private.{Readable}
 
 -- what the reader has answered is read out of the file
-pub reads_part : (file lent numbers : List ℕ) (day : Day) → ReadingAnswered file lent numbers (Reading.Read day)
+pub reads_part : (file lent numbers : List ℕ) (day : Day) → ReadingAnswered file lent numbers (Ok day)
     → Reads file day (take (numbers_in day.counts) numbers)
 reads_part file lent numbers day R =
-    rw (taken-numbers file lent numbers (Reading.Read day) R refl) (reads_day file lent numbers (Reading.Read day) R refl)
+    rw (taken-numbers file lent numbers (Ok day) R refl) (reads_day file lent numbers (Ok day) R refl)
 
 module _ (file : List ℕ) (are : AreBytes file) (day : Day) (numbers : List ℕ) (R : Reads file day numbers) {start end : ℕ}
     (start_is : start ≡ entries_start day.counts) (end_is : end ≡ entries_start day.counts + run_size day.counts Entry) where

@@ -1,4 +1,5 @@
 -- The fields of a point's entries, read back: how many there are, their shippers and entitlements; so their lines are the point's.
+use Rattle.std.specs.Prelude.{Ok, Err}
 use mathlib.Core.Path.{◌≡◌, refl, ap, ap₂, sym, ◌∙◌}
 use mathlib.Core.List.{List, [], ◌∷◌}
 use Prim.Native.Nat.{ℕ, min, ◌+◌, ◌*◌, ◌≤◌, ◌<◌}
@@ -8,8 +9,6 @@ use lib.Seq.{drop-drop}
 use Rattle.columns.specs.Column.{col, listed}
 use Rattle.columns.proofs.Lists.{listed_same}
 use Rattle.columns.proofs.Joined.{joined_same}
-use Rattle.units.specs.declared.refusal.Check.{Check}
-use Rattle.units.specs.declared.refusal.Check.TheVariants as Check
 use Rattle.bigendian.specs.Number.{value}
 use Rattle.bigendian.specs.Row.{decode}
 use Rattle.pointshares.specs.Share.{hour_shares}
@@ -32,13 +31,14 @@ use Rattle.entrylists.proofs.EntryRows.{rows_inside}
 use Rattle.entrylists.proofs.SideRuns.{number-again, list-long}
 use Rattle.pointlisting.specs.PointsText.{entry_lines}
 use Rattle.pointlisting.proofs.FirmMdqs.{firm-bounded}
+use Rattle.units.specs.Refusals.{Check}
 
 -- ---- columns that agree on the entries make one text
 lines_same : (found : Check) (many : ℕ) (shipper other share : ℕ → ℕ) → ((entry : ℕ) → entry < many → shipper entry ≡ other entry)
     → share_lines found many shipper share ≡ share_lines found many other share
-lines_same Check.Accepted many shipper other share same =
+lines_same (Ok _) many shipper other share same =
     joined_same many _ _ (λ entry l. ap (λ shipper. line (decimals (shipper ∷ share entry ∷ []))) (same entry l))
-lines_same (Check.Refused refusal) many shipper other share same = refl
+lines_same (Err refusal) many shipper other share same = refl
 
 module _ (capacity many : ℕ) (shipper entitlement mdq shipper' entitlement' mdq' : ℕ → ℕ)
     (shippers : (entry : ℕ) → entry < many → shipper entry ≡ shipper' entry)

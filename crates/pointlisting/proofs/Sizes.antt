@@ -1,4 +1,5 @@
 -- Room for every listing of points: at most 32 points, each with its line and those of its hour.
+use Rattle.std.specs.Prelude.{Ok}
 use mathlib.Core.Path.{◌≡◌, refl}
 use mathlib.Core.List.{List}
 use Prim.Native.Nat.{ℕ, ◌+◌, ◌≤◌, ◌<◌}
@@ -6,7 +7,6 @@ use native.Mathlib.Nat.{le_refl}
 use native.Mathlib.Omega.{arith}
 use lib.ListN.{length, length-append}
 use Rattle.columns.specs.Column.{col, joined}
-use Rattle.units.specs.declared.refusal.Check.TheVariants.{Accepted}
 use Rattle.units.specs.Bound.{most_hour}
 use Rattle.lines.proofs.Sizes.{line-none, line-within, figure-within}
 use Rattle.lines.proofs.Texts.{texts_most}
@@ -74,7 +74,7 @@ module _ (day : Day) (numbers : List ℕ) (S : Sound day numbers) where
         S.few Point,
       )
 
-pub text-most : (file : List ℕ) → file_check (walked file) ≡ Accepted → length (points_listing file) ≤ 65_536
+pub text-most : (file : List ℕ) → file_check (walked file) ≡ Ok tt → length (points_listing file) ≤ 65_536
 text-most file accepted =
     let none = faultless (walked file) accepted in
     day-most (day_of file) (tables file).numbers (read-sound file none) (day-number file none)

@@ -1,7 +1,6 @@
 // A day's listing of points.
-ghost use Rattle.std.specs.Prelude.{◌+◌, ◌^◌, ◌≤◌, length};
+ghost use Rattle.std.specs.Prelude.{◌+◌, ◌^◌, ◌≤◌, length, Ok};
 ghost use Rattle.columns.specs.Column.{col, joined};
-ghost use Rattle.units.specs.declared.refusal.Check.TheVariants.{Accepted};
 ghost use Rattle.text.specs.Text.{Laid};
 ghost use Rattle.lines.specs.Answer.{ListingAnswered};
 ghost use Rattle.dayruns.specs.Walk.{file_check};
@@ -11,26 +10,21 @@ ghost use Rattle.pointlisting.specs.PointsText.{day_line, point_lines, points_te
 ghost use Rattle.pointlisting.specs.Private.{Readable};
 
 use crate::point::put_point;
-use dayfile::{Reading, read_day};
+use dayfile::read_day;
 use dayformat::{Day, MOST_NUMBERS, numbers_of};
 use entrylists::{entries_end, entries_start, first_delivery};
-use lines::{Listing, put_line, put_word};
+use lines::{put_line, put_word};
 use units::Refusal;
 
 // Lists a day file's points: the text goes to the front of a lent block.
-pub fn list_points(file: &[u8], lent: &mut [u8]) -> Listing
+pub fn list_points(file: &[u8], lent: &mut [u8]) -> Result<usize, Refusal>
     ensures { ListingAnswered (file_check (walked file.now)) (points_listing file.now)
         lent.old lent.new result }
 {
     let mut numbers = [0usize; MOST_NUMBERS];
-    let reading = read_day(file, &mut numbers);
-    match reading {
-        Reading::Refused(refusal) => Listing::Refused(refusal),
-        Reading::Read(day) => {
-            let count = numbers_of(day.counts);
-            list_day(day, &numbers[..count], file, lent)
-        }
-    }
+    let day = read_day(file, &mut numbers)?;
+    let count = numbers_of(day.counts);
+    list_day(day, &numbers[..count], file, lent)
 }
 
 // DAY number.
@@ -90,23 +84,23 @@ fn lay_points<'a>(
     receipt: &'a [u8],
     delivery: &'a [u8],
     lent: &mut [u8],
-) -> Listing
+) -> Result<usize, Refusal>
     requires { Readable day numbers.now receipt.now delivery.now }
-    ensures { ListingAnswered Accepted (points_text day (col numbers.now)) lent.old lent.new result }
+    ensures { ListingAnswered (Ok tt) (points_text day (col numbers.now)) lent.old lent.new result }
 {
     let room = lent.len();
     let size = put_points(day, numbers, receipt, delivery, lent, room);
     if room < size {
-        return Listing::Refused(Refusal::plain(7));
+        return Err(Refusal::plain(7));
     }
     put_points(day, numbers, receipt, delivery, lent, 0);
-    Listing::Text(size)
+    Ok(size)
 }
 
 // The listing of a day that is read out of a file. Its entries of side 1 are the delivery list.
-fn list_day(day: Day, numbers: &[usize], file: &[u8], lent: &mut [u8]) -> Listing
+fn list_day(day: Day, numbers: &[usize], file: &[u8], lent: &mut [u8]) -> Result<usize, Refusal>
     requires { Reads file.now day numbers.now }
-    ensures { ListingAnswered Accepted (points_text day (col numbers.now)) lent.old lent.new result }
+    ensures { ListingAnswered (Ok tt) (points_text day (col numbers.now)) lent.old lent.new result }
 {
     let counts = day.counts;
     let start = entries_start(counts);

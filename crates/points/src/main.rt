@@ -1,7 +1,6 @@
 // Reads a day file on standard input and prints its points, each with the shares of its entries, or why the file is refused.
 #![tactic(auto)]
 
-use lines::Listing;
 use std::io::{Result, Write};
 use streams::{BUFFER, LARGE_BUFFER};
 
@@ -11,13 +10,13 @@ fn main(rt: HostRuntime) -> Result<()> {
     let got = streams::read_full(&mut rt.stdin(), &mut file)?;
     let listing = pointlisting::list_points(&file[..got], &mut text);
     match listing {
-        Listing::Text(size) => print(&mut rt.stdout(), &text, size),
-        Listing::Refused(refusal) => {
+        Ok(size) => print(&mut rt.stdout(), &text, size),
+        Err(refusal) => {
             let mut line = [0u8; BUFFER];
             let refused = lines::refusal_line(refusal, &mut line);
             match refused {
-                Listing::Text(size) => print(&mut rt.stdout(), &line, size),
-                Listing::Refused(_) => Ok(()),
+                Ok(size) => print(&mut rt.stdout(), &line, size),
+                Err(_) => Ok(()),
             }
         }
     }

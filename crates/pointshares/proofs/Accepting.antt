@@ -1,18 +1,18 @@
 -- What acceptance says of an hour's input.
+use Rattle.std.specs.Prelude.{Ok}
 use mathlib.Core.Path.{◌≡◌, refl}
 use mathlib.Core.List.{List}
 use Prim.Native.Nat.{ℕ}
 use native.Mathlib.Omega.{arith}
 use borrow.Author.Tests.{leb-true, eqb-true, not-true}
 use lib.ListN.{length}
-use Rattle.units.specs.declared.refusal.Check.{Check}
 use Rattle.units.proofs.Checks.{both-accepted, kept, all-within}
 use Rattle.pointshares.specs.Private.{Ready}
 use Rattle.pointshares.specs.Answer.{hour_check}
 use Rattle.pointshares.proofs.Stranding.{not_stranded}
 
 pub accepting : (h : ℕ) (entitlements mdqs : List ℕ) (room : ℕ)
-    → hour_check h entitlements mdqs room ≡ Check.Accepted → Ready h entitlements mdqs room
+    → hour_check h entitlements mdqs room ≡ Ok tt → Ready h entitlements mdqs room
 unfolding hour_check
 accepting h entitlements mdqs room e =
     let lent = both-accepted _ _ e in

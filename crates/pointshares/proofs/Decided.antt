@@ -1,4 +1,5 @@
 -- The tests decide an answer of `share_hour`: number 0 exactly where they accept, zero where they refuse; a refused row is one of 64.
+use Rattle.std.specs.Prelude.{Result}
 use mathlib.Core.Path.{refl}
 use mathlib.Core.List.{List}
 use Prim.Native.Nat.{ℕ}
@@ -6,8 +7,9 @@ use lib.ListN.{length}
 use Rattle.units.specs.Verdict.{Decided}
 use Rattle.units.proofs.Places.{PlacedTo, ◌then_if◌, plainly, two-lists}
 use Rattle.units.proofs.Verdicts.{AllNumbered, none, ◌and◌, kept_by, cleared_by, decided}
-use Rattle.pointshares.specs.declared.Hour.{Hour}
 use Rattle.pointshares.specs.Answer.{hour_check, hour_given, hour_answer, hour_verdict, HourAnswered}
+use Rattle.units.specs.declared.Megajoules.{Megajoules}
+use Rattle.units.specs.declared.refusal.Refusal.{Refusal}
 
 pub hour_numbered : (h : ℕ) (entitlements mdqs : List ℕ) (room : ℕ) → AllNumbered (hour_check h entitlements mdqs room)
 unfolding hour_check
@@ -21,7 +23,7 @@ hour_numbered h entitlements mdqs room =
     and kept_by _ 6 tt tt
     and kept_by _ 7 tt tt
 
-pub hour_decided : {h : ℕ} {entitlements mdqs lent after : List ℕ} {hour : Hour} → HourAnswered h entitlements mdqs lent hour after
+pub hour_decided : {h : ℕ} {entitlements mdqs lent after : List ℕ} {hour : Result Megajoules Refusal} → HourAnswered h entitlements mdqs lent hour after
     → Decided (hour_check h entitlements mdqs (length lent)) (hour_given h entitlements mdqs) (record { 0 = 0 }) (hour_verdict hour)
 hour_decided {h} {entitlements} {mdqs} {lent} A =
     decided hour_answer hour_verdict refl (λ refusal. refl) (hour_numbered h entitlements mdqs (length lent)) A.answers

@@ -1,11 +1,12 @@
 -- 01, "An hour at a point": what the shares of every accepted hour keep, in the list that a caller holds afterwards.
-use Rattle.std.specs.Prelude.{◌≡◌, List, ℕ, ◌+◌, ◌≤◌, ◌<◌, length, take, drop}
+use Rattle.std.specs.Prelude.{◌≡◌, List, ℕ, ◌+◌, ◌≤◌, ◌<◌, length, take, drop, Result}
 use Rattle.columns.specs.Column.{col}
 use Rattle.columns.specs.Sum.{sum}
-use Rattle.pointshares.specs.declared.Hour.{Hour}
 use Rattle.pointshares.specs.Answer.{hour_verdict}
+use Rattle.units.specs.declared.Megajoules.{Megajoules}
+use Rattle.units.specs.declared.refusal.Refusal.{Refusal}
 
-pub record HourKept (h : ℕ) (entitlements lent : List ℕ) (hour : Hour) (after : List ℕ) : Type 0 where
+pub record HourKept (h : ℕ) (entitlements lent : List ℕ) (hour : Result Megajoules Refusal) (after : List ℕ) : Type 0 where
   -- the figure is what the shares at the front come to
   pub total : (hour_verdict hour).figures.0 ≡ sum (length entitlements) (col (take (length entitlements) after))
   -- they never pass H

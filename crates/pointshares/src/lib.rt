@@ -9,14 +9,7 @@ mod totals;
 
 ghost use Rattle.pointshares.specs.Answer.{HourAnswered};
 
-use units::{Check, Megajoules, Refusal};
-
-// What the shippers are given together, or why nothing is shared.
-#[derive(Clone, Copy)]
-pub enum Hour {
-    Shared(Megajoules),
-    Refused(Refusal),
-}
+use units::{Megajoules, Refusal};
 
 // 01, "An hour at a point": each shipper's share goes to the front of `shares`; a refusal leaves it as it was.
 pub fn share_hour(
@@ -24,17 +17,12 @@ pub fn share_hour(
     entitlements: &[u64],
     mdqs: &[u32],
     shares: &mut [u64],
-) -> Hour
+) -> Result<Megajoules, Refusal>
     ensures { HourAnswered capacity.0 entitlements.now mdqs.now
         shares.old result shares.new }
 {
-    let found = examine::examine(capacity.0, entitlements, mdqs, shares.len());
-    match found {
-        Check::Refused(refusal) => Hour::Refused(refusal),
-        Check::Accepted => {
-            let totals = totals::total_up(entitlements, mdqs);
-            let given = fill::fill(capacity.0, totals, entitlements, mdqs, shares);
-            Hour::Shared(Megajoules(given))
-        }
-    }
+    examine::examine(capacity.0, entitlements, mdqs, shares.len())?;
+    let totals = totals::total_up(entitlements, mdqs);
+    let given = fill::fill(capacity.0, totals, entitlements, mdqs, shares);
+    Ok(Megajoules(given))
 }

@@ -1,16 +1,16 @@
 -- What acceptance says of a round's input, and what accepts it.
+use Rattle.std.specs.Prelude.{Ok}
 use mathlib.Core.Path.{◌≡◌, refl}
 use mathlib.Core.List.{List}
 use Prim.Native.Nat.{ℕ}
 use native.Mathlib.Omega.{arith}
 use borrow.Author.Tests.{leb-true, eqb-true, le-leb, eq-eqb}
 use lib.ListN.{length}
-use Rattle.units.specs.declared.refusal.Check.{Check}
 use Rattle.units.proofs.Checks.{both-accepted, kept, all-within, accepts-both, accepts-kept, accepts-within}
 use Rattle.rounds.specs.Private.{Ready}
 use Rattle.rounds.specs.Answer.{round_check}
 
-pub accepting : (c : ℕ) (ws qs : List ℕ) (room : ℕ) → round_check c ws qs room ≡ Check.Accepted → Ready c ws qs room
+pub accepting : (c : ℕ) (ws qs : List ℕ) (room : ℕ) → round_check c ws qs room ≡ Ok tt → Ready c ws qs room
 unfolding round_check
 accepting c ws qs room e =
     let lent = both-accepted _ _ e in
@@ -32,7 +32,7 @@ accepting c ws qs room e =
       fits = leb-true _ _ (kept _ _ lent.1);
     }
 
-pub accepts : (c : ℕ) (ws qs : List ℕ) (room : ℕ) → Ready c ws qs room → round_check c ws qs room ≡ Check.Accepted
+pub accepts : (c : ℕ) (ws qs : List ℕ) (room : ℕ) → Ready c ws qs room → round_check c ws qs room ≡ Ok tt
 unfolding round_check
 accepts c ws qs room A =
     accepts-both (accepts-both (accepts-both (accepts-both (accepts-both (accepts-both refl

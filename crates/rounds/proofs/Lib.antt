@@ -2,5 +2,4 @@ pub mod Unchanging
 pub mod Searches
 pub mod Accepting
 pub mod Determined
-pub mod Answers
 pub mod Decided

@@ -1,20 +1,19 @@
 -- What `share_round` answers, and what it leaves in the lent list.
-use Rattle.std.specs.Prelude.{◌≡◌, List, ℕ, leb, eqb, length}
+use Rattle.std.specs.Prelude.{◌≡◌, List, ℕ, leb, eqb, length, Result, Ok, Err}
 use Rattle.std.proofs.lemmas.List.Edits.{sets}
 use Rattle.columns.specs.Column.{col, listed}
 use Rattle.columns.specs.Sum.{sum}
 use Rattle.sharing.specs.Round.{level, shares}
-use Rattle.units.specs.declared.refusal.Check.{Check}
 use Rattle.units.specs.Bound.{most_capacity, most_gigajoules, most_rows}
-use Rattle.units.specs.Refusals.{◌then◌, keep, within, accepted_or}
+use Rattle.units.specs.Refusals.{◌then◌, keep, within, accepted_or, Check}
 use Rattle.units.specs.Verdict.{Verdict, accepting, refusing}
 use Rattle.rounds.specs.declared.Given.{Given}
-use Rattle.rounds.specs.declared.Round.{Round}
+use Rattle.units.specs.declared.refusal.Refusal.{Refusal}
 
 -- refused: 9 unequal lists; 3 the capacity, the count, a weight, a need; 7 the lent list
 unfoldable pub round_check : ℕ → List ℕ → List ℕ → ℕ → Check
 round_check c ws qs room =
-    Check.Accepted
+    Ok tt
     then keep (eqb (length ws) (length qs)) 9
     then keep (leb c most_capacity) 3
     then keep (leb (length ws) most_rows) 3
@@ -30,17 +29,17 @@ round_given c ws qs =
       total = record { 0 = sum (length ws) (shares (length ws) (col ws) (col qs) c) };
     }
 
-abbrev pub round_answer : Check → Given → Round
-round_answer Check.Accepted g = Round.Shared g
-round_answer (Check.Refused x) g = Round.Refused x
+abbrev pub round_answer : Check → Given → Result Given Refusal
+round_answer (Ok _) g = Ok g
+round_answer (Err x) g = Err x
 
 -- 01's number, place and figures of each case
-abbrev pub round_verdict : Round → Verdict Given
-round_verdict (Round.Shared g) = accepting g
-round_verdict (Round.Refused x) = refusing x (record { level = 0; total = record { 0 = 0 } })
+abbrev pub round_verdict : Result Given Refusal → Verdict Given
+round_verdict (Ok g) = accepting g
+round_verdict (Err x) = refusing x (record { level = 0; total = record { 0 = 0 } })
 
 -- the statement of `share_round`: its answer, and the lent list before and after
-pub record RoundAnswered (c : ℕ) (ws qs lent : List ℕ) (round : Round) (after : List ℕ) : Type 0 where
+pub record RoundAnswered (c : ℕ) (ws qs lent : List ℕ) (round : Result Given Refusal) (after : List ℕ) : Type 0 where
   pub answers : round ≡ round_answer (round_check c ws qs (length lent)) (round_given c ws qs)
   pub leaves :
       after

@@ -12,7 +12,7 @@ mod whole;
 
 ghost use Rattle.rounds.specs.Answer.{RoundAnswered};
 
-use units::{Check, Gigajoules, Refusal};
+use units::{Gigajoules, Refusal};
 
 // A round's level, and what its rows are given together.
 #[derive(Clone, Copy)]
@@ -21,32 +21,18 @@ pub struct Given {
     pub total: Gigajoules,
 }
 
-#[derive(Clone, Copy)]
-pub enum Round {
-    Shared(Given),
-    Refused(Refusal),
-}
-
 // 01, "One sharing round": each row's share goes to the front of `shares`; a refusal leaves it as it was.
 pub fn share_round(
     capacity: Gigajoules,
     weights: &[u32],
     needs: &[u32],
     shares: &mut [u32],
-) -> Round
+) -> Result<Given, Refusal>
     ensures { RoundAnswered capacity.0 weights.now needs.now
         shares.old result shares.new }
 {
-    let found = examine::examine(capacity.0, weights, needs, shares.len());
-    match found {
-        Check::Refused(refusal) => Round::Refused(refusal),
-        Check::Accepted => {
-            let level = level::level_of(capacity.0, weights, needs);
-            let total = fill::fill(weights, needs, level, shares);
-            Round::Shared(Given {
-                level,
-                total: Gigajoules(total),
-            })
-        }
-    }
+    examine::examine(capacity.0, weights, needs, shares.len())?;
+    let level = level::level_of(capacity.0, weights, needs);
+    let total = Gigajoules(fill::fill(weights, needs, level, shares));
+    Ok(Given { level, total })
 }

@@ -1,4 +1,5 @@
 -- The round trips of the routines' answers: one of number 0 says what was accepted, and where the figures stand.
+use Rattle.std.specs.Prelude.{Ok}
 use mathlib.Core.Path.{◌≡◌, refl, ap, sym, ◌∙◌}
 use mathlib.Core.List.{List}
 use Prim.Native.Nat.{ℕ, ◌≤◌}
@@ -7,7 +8,6 @@ use borrow.Author.Tests.{le-leb, eq-eqb, leb-true}
 use lib.Dec.{leb}
 use lib.ListN.{length, take}
 use Rattle.columns.specs.Column.{col}
-use Rattle.units.specs.declared.refusal.Check.TheVariants.{Accepted}
 use Rattle.units.specs.Refusals.{keep}
 use Rattle.units.proofs.Checks.{both-accepted, kept, accepts-both, accepts-kept}
 use Rattle.dayformat.specs.declared.day.Day.{Day}
@@ -30,7 +30,7 @@ file_again file lent numbers block after reading day written are R zero is A roo
     let taken : take (numbers_in day.counts) numbers ≡ (tables file).numbers =
     rw is at (taken-numbers file lent numbers reading R zero)
     in let W = round_trips.file_again file day (tables file).numbers are (rw is at (reads_day file lent numbers reading R zero))
-    in let accepted : written_check day (take (numbers_in day.counts) numbers) (length block) ≡ Accepted =
+    in let accepted : written_check day (take (numbers_in day.counts) numbers) (length block) ≡ (Ok tt) =
     rw taken (accepts-both W.accepted (accepts-kept 7 (le-leb _ _ room)))
     in let long : file_size day.counts ≡ length file = sym (length-file_of day (col (tables file).numbers)) ∙ ap length W.file_is
     in let written-told = (written_decided A).accepted accepted
@@ -42,7 +42,7 @@ file_again file lent numbers block after reading day written are R zero is A roo
 
 -- what reads back is accepted where there is room for its numbers
 reads_accepted : (file : List ℕ) (day : Day) (numbers : List ℕ) (room : ℕ) → Reads file day numbers → numbers_in day.counts ≤ room
-    → reading_check file room ≡ Accepted
+    → reading_check file room ≡ Ok tt
 unfolding reading_check
 reads_accepted file day numbers room R l =
     let same : (walked file).counts ≡ day.counts = ap (λ day. day.counts) R.day_is in

@@ -1,20 +1,18 @@
 -- Demand 2: an accepted day file read and written again gives the same bytes; an accepted day written and read, the same day.
-use Rattle.std.specs.Prelude.{◌≡◌, List, ℕ, ◌^◌, ◌≤◌, ◌<◌, length, take}
+use Rattle.std.specs.Prelude.{◌≡◌, List, ℕ, ◌^◌, ◌≤◌, ◌<◌, length, take, Result, Ok}
 use Rattle.columns.specs.Column.{col}
-use Rattle.units.specs.declared.refusal.Check.TheVariants.{Accepted}
 use Rattle.bigendian.specs.Number.{AreBytes}
 use Rattle.dayformat.specs.declared.day.Day.{Day}
 use Rattle.dayformat.specs.Layout.{numbers_in, file_size}
 use Rattle.dayformat.specs.DayBytes.{file_of}
-use Rattle.daywriter.specs.declared.Written.{Written}
 use Rattle.daywriter.specs.Acceptance.{sound}
 use Rattle.daywriter.specs.Answer.{WrittenAnswered, written_verdict}
-use Rattle.dayfile.specs.declared.reader.Reading.{Reading}
 use Rattle.dayfile.specs.Answer.{Reads, ReadingAnswered, reading_verdict}
+use Rattle.units.specs.declared.refusal.Refusal.{Refusal}
 
 -- the writer accepts a day, whose file it is
 pub record Writes (day : Day) (numbers file : List ℕ) : Type 0 where
-  pub accepted : sound day numbers ≡ Accepted
+  pub accepted : sound day numbers ≡ Ok tt
   pub file_is : file_of day (col numbers) ≡ file
 
 -- reading and writing undo one another, for files of bytes and days whose number is a u32
@@ -26,7 +24,7 @@ pub record RoundTrips : Type 0 where
 -- what is read out of a file, written again into a block with room, is the file
 abbrev pub FileAgain : Type 0
 FileAgain =
-    (file lent numbers block after : List ℕ) (reading : Reading) (day : Day) (written : Written) → AreBytes file
+    (file lent numbers block after : List ℕ) (reading : Result Day Refusal) (day : Day) (written : Result ℕ Refusal) → AreBytes file
     → ReadingAnswered file lent numbers reading → (reading_verdict reading).number ≡ 0 → (reading_verdict reading).figures ≡ day
     → WrittenAnswered day (take (numbers_in day.counts) numbers) block after written → file_size day.counts ≤ length block
     → ((written_verdict written).number ≡ 0) × ((written_verdict written).figures ≡ length file) × (take (length file) after ≡ file)
@@ -34,7 +32,7 @@ FileAgain =
 -- what is written, read again into a block with room, is the day
 abbrev pub DayAgain : Type 0
 DayAgain =
-    (numbers block bytes lent after : List ℕ) (day : Day) (written : Written) (size : ℕ) (reading : Reading) → day.head.day < 2 ^ 32
+    (numbers block bytes lent after : List ℕ) (day : Day) (written : Result ℕ Refusal) (size : ℕ) (reading : Result Day Refusal) → day.head.day < 2 ^ 32
     → WrittenAnswered day numbers block bytes written → (written_verdict written).number ≡ 0 → (written_verdict written).figures ≡ size
     → ReadingAnswered (take size bytes) lent after reading → numbers_in day.counts ≤ length lent
     → ((reading_verdict reading).number ≡ 0) × ((reading_verdict reading).figures ≡ day) × (take (numbers_in day.counts) after ≡ numbers)
@@ -43,5 +41,5 @@ DayAgain =
 abbrev pub Exactly : Type 0
 Exactly =
     (day : Day) (numbers : List ℕ) → day.head.day < 2 ^ 32
-    → (sound day numbers ≡ Accepted → (file : List ℕ) × AreBytes file × Reads file day numbers)
-    × ((file : List ℕ) → AreBytes file → Reads file day numbers → sound day numbers ≡ Accepted)
+    → (sound day numbers ≡ Ok tt → (file : List ℕ) × AreBytes file × Reads file day numbers)
+    × ((file : List ℕ) → AreBytes file → Reads file day numbers → sound day numbers ≡ Ok tt)

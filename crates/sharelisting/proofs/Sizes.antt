@@ -1,4 +1,5 @@
 -- Room for every listing of shares: each figure has as many digits as its bound at most, and there are at most 64 shippers.
+use Rattle.std.specs.Prelude.{Ok}
 use mathlib.Core.Path.{◌≡◌, refl}
 use mathlib.Core.List.{List}
 use Prim.Native.Nat.{ℕ, ◌≤◌, ◌<◌}
@@ -7,7 +8,6 @@ use native.Mathlib.Omega.{arith}
 use lib.ListN.{length, length-append}
 use Rattle.columns.specs.Column.{col, joined}
 use Rattle.columns.proofs.Lists.{length-listed}
-use Rattle.units.specs.declared.refusal.Check.TheVariants.{Accepted}
 use Rattle.units.specs.Bound.{most_gigajoules, most_capacity}
 use Rattle.lines.proofs.Sizes.{line-none, line-within, figure-within}
 use Rattle.lines.proofs.Texts.{texts_most}
@@ -54,7 +54,7 @@ module _ (day : Day) (numbers : List ℕ) (S : Sound day numbers) where
   abbrev T : Table
   T = table_of day (col numbers)
 
-  accepted : table_check T 64 64 64 ≡ Accepted
+  accepted : table_check T 64 64 64 ≡ Ok tt
   accepted = shares_accept day numbers S 64 64 64 (le_refl 64) (le_refl 64) (le_refl 64)
 
   A : Accepting T 64 64 64
@@ -95,7 +95,7 @@ module _ (day : Day) (numbers : List ℕ) (S : Sound day numbers) where
         S.few Shipper,
       )
 
-pub text-most : (file : List ℕ) → file_check (walked file) ≡ Accepted → length (shares_listing file) ≤ 2_048
+pub text-most : (file : List ℕ) → file_check (walked file) ≡ Ok tt → length (shares_listing file) ≤ 2_048
 text-most file accepted =
     let none = faultless (walked file) accepted in
     day-most (day_of file) (tables file).numbers (read-sound file none) (day-number file none)

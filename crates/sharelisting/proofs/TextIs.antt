@@ -1,4 +1,5 @@
 -- What is laid out of the shared lists is the listing's text.
+use Rattle.std.specs.Prelude.{Result, Ok, Err}
 use mathlib.Core.Path.{◌≡◌, ap, ap₂, sym, ◌∙◌}
 use mathlib.Core.List.{List, ◌++◌}
 use Prim.Native.Nat.{ℕ, ◌<◌}
@@ -9,14 +10,11 @@ use Rattle.columns.specs.Column.{col, listed}
 use Rattle.columns.proofs.Lists.{length-listed, col-sets}
 use Rattle.columns.proofs.Joined.{joined_same}
 use Rattle.units.specs.declared.refusal.Refusal.{Refusal}
-use Rattle.units.specs.declared.refusal.Check.{Check}
 use Rattle.units.specs.Bound.{most_rows}
 use Rattle.daytable.specs.Table.{Table, rows}
 use Rattle.dayformat.specs.declared.day.Day.{Day}
 use Rattle.dayformat.specs.declared.form.Tag.TheVariants.{Shipper}
 use Rattle.dayformat.specs.Layout.{count}
-use Rattle.dayshares.specs.declared.Day.{Day as DayShares}
-use Rattle.dayshares.specs.declared.Day.TheVariants as DayShares
 use Rattle.dayshares.specs.declared.Shares.{Shares}
 use Rattle.dayshares.specs.Given.{firm_given, auction_given, lower_tier_given}
 use Rattle.dayshares.specs.Answer.{day_shares, shares_verdict}
@@ -33,20 +31,20 @@ zeros = replicate most_rows 0
 long : length zeros ≡ most_rows
 long = length-replicate {A = ℕ} most_rows 0
 
-module _ (day : Day) (numbers : List ℕ) (S : Sound day numbers) {firm auction lower_tier : List ℕ} {answer : DayShares}
+module _ (day : Day) (numbers : List ℕ) (S : Sound day numbers) {firm auction lower_tier : List ℕ} {answer : Result Shares Refusal}
     (H : NumbersAnswered day numbers zeros zeros zeros answer firm auction lower_tier) where
-  accepted : numbers_check day numbers (length zeros) (length zeros) (length zeros) ≡ Check.Accepted
+  accepted : numbers_check day numbers (length zeros) (length zeros) (length zeros) ≡ Ok tt
   accepted = numbers_accept day numbers S _ _ _ (omega (arith, long)) (omega (arith, long)) (omega (arith, long))
 
   abbrev T : Table
   T = table_of day (col numbers)
 
-  shared : answer ≡ DayShares.Shared (day_shares T)
+  shared : answer ≡ Ok (day_shares T)
   shared = H.answers ∙ rw accepted
 
-  pub never_refused : {A : Type 0} (x : Refusal) → answer ≡ DayShares.Refused x → A
+  pub never_refused : {A : Type 0} (x : Refusal) → answer ≡ Err x → A
   never_refused x e =
-      let same : DayShares.Refused x ≡ DayShares.Shared (day_shares T) = sym e ∙ shared in
+      let same : Err x ≡ Ok (day_shares T) = sym e ∙ shared in
       let z : ◌≡◌ {A = ℕ} 0 1 = cc in
       absurd (omega arith)
 
@@ -62,7 +60,7 @@ module _ (day : Day) (numbers : List ℕ) (S : Sound day numbers) {firm auction 
       ∙ col-sets (rows T) given zeros (omega (arith, many, S.few Shipper, long)) row
       (omega (arith, many, l))
 
-  pub text_is : (v : Shares) → answer ≡ DayShares.Shared v
+  pub text_is : (v : Shares) → answer ≡ Ok v
       → head_line day.head.day v.firm.0 v.left.0
       ++ shipper_lines (count day.counts Shipper) (shipper_of day.counts (col numbers)) (col firm) (col auction) (col lower_tier)
       ≡ shares_text day (col numbers)

@@ -1,7 +1,6 @@
 // A day's listing of shares.
-ghost use Rattle.std.specs.Prelude.{◌++◌, ◌≤◌, length};
+ghost use Rattle.std.specs.Prelude.{◌++◌, ◌≤◌, length, Ok};
 ghost use Rattle.columns.specs.Column.{col};
-ghost use Rattle.units.specs.declared.refusal.Check.TheVariants.{Accepted};
 ghost use Rattle.text.specs.Text.{Laid};
 ghost use Rattle.lines.specs.Answer.{ListingAnswered};
 ghost use Rattle.dayrows.specs.Private.{Sound};
@@ -11,26 +10,20 @@ ghost use Rattle.dayruns.specs.Walk.{file_check};
 ghost use Rattle.dayvalues.specs.Shippers.{shipper_of};
 
 use crate::sharestext::{put_head, put_shippers};
-use dayfile::{Reading, read_day};
+use dayfile::read_day;
 use dayformat::{Day, MOST_NUMBERS, numbers_of};
-use lines::Listing;
 use numbershares::share_numbers;
 use units::{MOST_ROWS, Refusal};
 
 // Lists a day file's shares: the text goes to the front of a lent block.
-pub fn list_shares(file: &[u8], lent: &mut [u8]) -> Listing
+pub fn list_shares(file: &[u8], lent: &mut [u8]) -> Result<usize, Refusal>
     ensures { ListingAnswered (file_check (walked file.now)) (shares_listing file.now)
         lent.old lent.new result }
 {
     let mut numbers = [0usize; MOST_NUMBERS];
-    let reading = read_day(file, &mut numbers);
-    match reading {
-        Reading::Refused(refusal) => Listing::Refused(refusal),
-        Reading::Read(day) => {
-            let count = numbers_of(day.counts);
-            list_day(day, &numbers[..count], lent)
-        }
-    }
+    let day = read_day(file, &mut numbers)?;
+    let count = numbers_of(day.counts);
+    list_day(day, &numbers[..count], lent)
 }
 
 // The whole text: the head line, then a line for each shipper.
@@ -66,9 +59,9 @@ fn lay_shares(
     auction: &[u32],
     lower_tier: &[u32],
     lent: &mut [u8],
-) -> Listing
+) -> Result<usize, Refusal>
     requires { day.counts.shippers ≤ 64 }
-    ensures { ListingAnswered Accepted
+    ensures { ListingAnswered (Ok tt)
         (head_line day.head.day (col totals 0) (col totals 1)
         ++ shipper_lines day.counts.shippers (shipper_of day.counts (col numbers.now))
         (col firm.now) (col auction.now) (col lower_tier.now))
@@ -77,26 +70,21 @@ fn lay_shares(
     let room = lent.len();
     let size = put_shares(day, numbers, totals, firm, auction, lower_tier, lent, room);
     if room < size {
-        return Listing::Refused(Refusal::plain(7));
+        return Err(Refusal::plain(7));
     }
     put_shares(day, numbers, totals, firm, auction, lower_tier, lent, 0);
-    Listing::Text(size)
+    Ok(size)
 }
 
 // A sound day's listing.
-fn list_day(day: Day, numbers: &[usize], lent: &mut [u8]) -> Listing
+fn list_day(day: Day, numbers: &[usize], lent: &mut [u8]) -> Result<usize, Refusal>
     requires { Sound day numbers.now }
-    ensures { ListingAnswered Accepted (shares_text day (col numbers.now)) lent.old lent.new result }
+    ensures { ListingAnswered (Ok tt) (shares_text day (col numbers.now)) lent.old lent.new result }
 {
     let mut firm = [0u32; MOST_ROWS];
     let mut auction = [0u32; MOST_ROWS];
     let mut lower_tier = [0u32; MOST_ROWS];
-    let shared = share_numbers(day, numbers, &mut firm, &mut auction, &mut lower_tier);
-    match shared {
-        dayshares::Day::Refused(refusal) => Listing::Refused(refusal),
-        dayshares::Day::Shared(shares) => {
-            let totals = [shares.firm.0, shares.left.0];
-            lay_shares(day, numbers, totals, &firm, &auction, &lower_tier, lent)
-        }
-    }
+    let shares = share_numbers(day, numbers, &mut firm, &mut auction, &mut lower_tier)?;
+    let totals = [shares.firm.0, shares.left.0];
+    lay_shares(day, numbers, totals, &firm, &auction, &lower_tier, lent)
 }

@@ -1,23 +1,24 @@
 -- The cents of every variation and request charge are at most what 01's bounds can yield, which they reach.
+use Rattle.std.specs.Prelude.{Result, Ok}
 use mathlib.Core.Path.{◌≡◌, refl}
 use Prim.Native.Nat.{ℕ, ◌≤◌}
 use native.Mathlib.Nat.{mul-le-mul}
 use native.Mathlib.Omega.{arith}
 use borrow.Author.Tests.{leb-true}
 use Rattle.units.specs.declared.Rate.{Rate}
-use Rattle.units.specs.declared.refusal.Check.{Check}
 use Rattle.units.specs.Bound.{most_gigajoules, most_requests, most_rate}
 use Rattle.units.proofs.Checks.{both-accepted, kept}
 use Rattle.units.proofs.Verdicts.{every-figure}
 use Rattle.tariff.specs.declared.charges.Change.{Change}
-use Rattle.tariff.specs.declared.charges.Charge.{Charge}
 use Rattle.tariff.specs.HalfUp.{half_up}
 use Rattle.tariff.specs.Charges.{charge_verdict, upward, larger, variation_cents, most_variation, variation_check, variation_charge}
 use Rattle.tariff.specs.Charges.{request_cents, most_request, request_check, request_charge}
 use Rattle.tariff.proofs.Decided.{variation_decided, request_decided}
+use Rattle.units.specs.declared.Cents.{Cents}
+use Rattle.units.specs.declared.refusal.Refusal.{Refusal}
 
 module _ (rate : Rate) (receipt delivery : Change) where
-  variation_most : variation_check rate receipt delivery ≡ Check.Accepted → (variation_cents rate receipt delivery).0 ≤ most_variation
+  variation_most : variation_check rate receipt delivery ≡ Ok tt → (variation_cents rate receipt delivery).0 ≤ most_variation
   unfolding variation_check half_up
   variation_most accepted =
       let up-to-delivery = both-accepted _ _ accepted in
@@ -31,13 +32,13 @@ module _ (rate : Rate) (receipt delivery : Change) where
       omega (arith, mul-le-mul r up)
 
   -- for callers: of every answer, refused or not
-  pub variation_kept : {charge : Charge} → charge ≡ variation_charge rate receipt delivery
+  pub variation_kept : {charge : Result Cents Refusal} → charge ≡ variation_charge rate receipt delivery
       → (charge_verdict charge).figures.0 ≤ most_variation
   variation_kept is =
       every-figure (λ due. due.0 ≤ most_variation) (variation_decided rate receipt delivery is) variation_most (omega arith)
 
 module _ (rate : Rate) (requests : ℕ) where
-  request_most : request_check rate requests ≡ Check.Accepted → (request_cents rate requests).0 ≤ most_request
+  request_most : request_check rate requests ≡ Ok tt → (request_cents rate requests).0 ≤ most_request
   unfolding request_check half_up
   request_most accepted =
       let both = both-accepted _ _ accepted in
@@ -46,7 +47,7 @@ module _ (rate : Rate) (requests : ℕ) where
       let each : half_up rate.0 1_000 ≤ 100_000 = omega arith in
       omega (arith, mul-le-mul each q)
 
-  pub request_kept : {charge : Charge} → charge ≡ request_charge rate requests → (charge_verdict charge).figures.0 ≤ most_request
+  pub request_kept : {charge : Result Cents Refusal} → charge ≡ request_charge rate requests → (charge_verdict charge).figures.0 ≤ most_request
   request_kept is = every-figure (λ due. due.0 ≤ most_request) (request_decided rate requests is) request_most (omega arith)
 
 -- the greatest rate, the greatest change up, the most requests

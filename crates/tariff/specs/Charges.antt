@@ -1,26 +1,25 @@
 -- 01, "Charges": what an overrun, a variation and requests cost.
-use Rattle.std.specs.Prelude.{ℕ, ◌-◌, ◌*◌, max, leb}
+use Rattle.std.specs.Prelude.{ℕ, ◌-◌, ◌*◌, max, leb, Result, Ok, Err}
 use Rattle.units.specs.declared.Gigajoules.{Gigajoules}
 use Rattle.units.specs.declared.Megajoules.{Megajoules}
 use Rattle.units.specs.declared.Cents.{Cents}
 use Rattle.units.specs.declared.Rate.{Rate}
-use Rattle.units.specs.declared.refusal.Check.{Check}
 use Rattle.units.specs.Bound.{most_gigajoules, most_chargeable, most_requests, most_rate}
-use Rattle.units.specs.Refusals.{◌then◌, keep}
+use Rattle.units.specs.Refusals.{◌then◌, keep, Check}
 use Rattle.units.specs.Verdict.{Verdict, accepting, refusing}
 use Rattle.tariff.specs.declared.charges.Change.{Change}
-use Rattle.tariff.specs.declared.charges.Charge.{Charge}
 use Rattle.tariff.specs.HalfUp.{half_up}
+use Rattle.units.specs.declared.refusal.Refusal.{Refusal}
 
 -- the answer, from what the tests find and the cents where they accept
-abbrev pub charge_answer : Check → Cents → Charge
-charge_answer Check.Accepted due = Charge.Charged due
-charge_answer (Check.Refused x) due = Charge.Refused x
+abbrev pub charge_answer : Check → Cents → Result Cents Refusal
+charge_answer (Ok _) due = Ok due
+charge_answer (Err x) due = Err x
 
 -- 01's number, place and cents of each case
-abbrev pub charge_verdict : Charge → Verdict Cents
-charge_verdict (Charge.Charged due) = accepting due
-charge_verdict (Charge.Refused x) = refusing x (record { 0 = 0 })
+abbrev pub charge_verdict : Result Cents Refusal → Verdict Cents
+charge_verdict (Ok due) = accepting due
+charge_verdict (Err x) = refusing x (record { 0 = 0 })
 
 -- cl. 7.2: rate × MJ / 1,000,000
 abbrev pub overrun_cents : Rate → Megajoules → Cents
@@ -28,11 +27,11 @@ overrun_cents rate overrun = record { 0 = half_up (rate.0 * overrun.0) 1_000_000
 
 unfoldable pub overrun_check : Rate → Megajoules → Check
 overrun_check rate overrun =
-    Check.Accepted
+    Ok tt
     then keep (leb rate.0 most_rate) 3
     then keep (leb overrun.0 most_chargeable) 3
 
-abbrev pub overrun_charge : Rate → Megajoules → Charge
+abbrev pub overrun_charge : Rate → Megajoules → Result Cents Refusal
 overrun_charge rate overrun = charge_answer (overrun_check rate overrun) (overrun_cents rate overrun)
 
 -- cl. 9.3(b): the GJ by which a schedule is varied up; a downward change counts zero
@@ -52,14 +51,14 @@ most_variation = 100_000_000_000
 
 unfoldable pub variation_check : Rate → Change → Change → Check
 variation_check rate receipt delivery =
-    Check.Accepted
+    Ok tt
     then keep (leb rate.0 most_rate) 3
     then keep (leb receipt.old.0 most_gigajoules) 3
     then keep (leb receipt.new.0 most_gigajoules) 3
     then keep (leb delivery.old.0 most_gigajoules) 3
     then keep (leb delivery.new.0 most_gigajoules) 3
 
-abbrev pub variation_charge : Rate → Change → Change → Charge
+abbrev pub variation_charge : Rate → Change → Change → Result Cents Refusal
 variation_charge rate receipt delivery = charge_answer (variation_check rate receipt delivery) (variation_cents rate receipt delivery)
 
 -- cl. 9.5: rate / 1,000, rounded, then times the number of requests
@@ -72,9 +71,9 @@ most_request = 100_000_000
 
 unfoldable pub request_check : Rate → ℕ → Check
 request_check rate requests =
-    Check.Accepted
+    Ok tt
     then keep (leb rate.0 most_rate) 3
     then keep (leb requests most_requests) 3
 
-abbrev pub request_charge : Rate → ℕ → Charge
+abbrev pub request_charge : Rate → ℕ → Result Cents Refusal
 request_charge rate requests = charge_answer (request_check rate requests) (request_cents rate requests)

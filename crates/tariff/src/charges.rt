@@ -3,16 +3,9 @@ ghost use Rattle.tariff.specs.Charges.{overrun_charge, upward, larger, variation
 
 use crate::rounding::half_up;
 use units::{
-    Cents, Check, Gigajoules, MOST_CHARGEABLE, MOST_GIGAJOULES, MOST_RATE, MOST_REQUESTS,
-    Megajoules, Rate, Refusal,
+    Cents, Gigajoules, MOST_CHARGEABLE, MOST_GIGAJOULES, MOST_RATE, MOST_REQUESTS, Megajoules,
+    Rate, Refusal, keep,
 };
-
-// What is to be paid, or why that can't be said.
-#[derive(Clone, Copy)]
-pub enum Charge {
-    Charged(Cents),
-    Refused(Refusal),
-}
 
 // A schedule before and after it is varied.
 #[derive(Clone, Copy)]
@@ -22,19 +15,13 @@ pub struct Change {
 }
 
 // Cl. 7.2: the charge for a day's chargeable overrun.
-pub fn overrun_charge(rate: Rate, overrun: Megajoules) -> Charge
+#[tactic(auto, unfolding(crate::specs::Charges::overrun_check, units::specs::Refusals::first_refusal))]
+pub fn overrun_charge(rate: Rate, overrun: Megajoules) -> Result<Cents, Refusal>
     ensures { result ≡ overrun_charge rate overrun }
 {
-    let found = Check::Accepted
-        .keep(rate.0 <= MOST_RATE.0, 3)
-        .keep(overrun.0 <= MOST_CHARGEABLE.0, 3);
-    match found {
-        Check::Refused(refusal) => Charge::Refused(refusal),
-        Check::Accepted => {
-            let cents = half_up(rate.0 as u64 * overrun.0, 1_000_000);
-            Charge::Charged(Cents(cents))
-        }
-    }
+    keep(rate.0 <= MOST_RATE.0, 3)?;
+    keep(overrun.0 <= MOST_CHARGEABLE.0, 3)?;
+    Ok(Cents(half_up(rate.0 as u64 * overrun.0, 1_000_000)))
 }
 
 // The gigajoules by which a schedule is varied up; a downward change counts zero.
@@ -58,37 +45,25 @@ fn larger(a: Gigajoules, b: Gigajoules) -> Gigajoules
 }
 
 // Cl. 9.3: the charge for varying a day's receipt and delivery schedules.
-pub fn variation_charge(rate: Rate, receipt: Change, delivery: Change) -> Charge
+#[tactic(auto, unfolding(crate::specs::Charges::variation_check, units::specs::Refusals::first_refusal))]
+pub fn variation_charge(rate: Rate, receipt: Change, delivery: Change) -> Result<Cents, Refusal>
     ensures { result ≡ variation_charge rate receipt delivery }
 {
-    let found = Check::Accepted
-        .keep(rate.0 <= MOST_RATE.0, 3)
-        .keep(receipt.old.0 <= MOST_GIGAJOULES.0, 3)
-        .keep(receipt.new.0 <= MOST_GIGAJOULES.0, 3)
-        .keep(delivery.old.0 <= MOST_GIGAJOULES.0, 3)
-        .keep(delivery.new.0 <= MOST_GIGAJOULES.0, 3);
-    match found {
-        Check::Refused(refusal) => Charge::Refused(refusal),
-        Check::Accepted => {
-            let quantity = larger(upward(receipt), upward(delivery));
-            let cents = half_up(rate.0 as u64 * quantity.0 as u64, 1_000);
-            Charge::Charged(Cents(cents))
-        }
-    }
+    keep(rate.0 <= MOST_RATE.0, 3)?;
+    keep(receipt.old.0 <= MOST_GIGAJOULES.0, 3)?;
+    keep(receipt.new.0 <= MOST_GIGAJOULES.0, 3)?;
+    keep(delivery.old.0 <= MOST_GIGAJOULES.0, 3)?;
+    keep(delivery.new.0 <= MOST_GIGAJOULES.0, 3)?;
+    let quantity = larger(upward(receipt), upward(delivery));
+    Ok(Cents(half_up(rate.0 as u64 * quantity.0 as u64, 1_000)))
 }
 
 // Cl. 9.5: the charge for a day's requests, each of them rounded.
-pub fn request_charge(rate: Rate, requests: u32) -> Charge
+#[tactic(auto, unfolding(crate::specs::Charges::request_check, units::specs::Refusals::first_refusal))]
+pub fn request_charge(rate: Rate, requests: u32) -> Result<Cents, Refusal>
     ensures { result ≡ request_charge rate requests }
 {
-    let found = Check::Accepted
-        .keep(rate.0 <= MOST_RATE.0, 3)
-        .keep(requests <= MOST_REQUESTS, 3);
-    match found {
-        Check::Refused(refusal) => Charge::Refused(refusal),
-        Check::Accepted => {
-            let each = half_up(rate.0 as u64, 1_000);
-            Charge::Charged(Cents(each * requests as u64))
-        }
-    }
+    keep(rate.0 <= MOST_RATE.0, 3)?;
+    keep(requests <= MOST_REQUESTS, 3)?;
+    Ok(Cents(half_up(rate.0 as u64, 1_000) * requests as u64))
 }

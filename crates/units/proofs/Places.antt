@@ -1,4 +1,5 @@
 -- How great a refusal's place can be: it is 0, or a row of a list that an earlier test found to be short enough.
+use Rattle.std.specs.Prelude.{Ok}
 use mathlib.Core.Path.{◌≡◌, refl}
 use mathlib.Core.Bool.{Bool}
 use mathlib.Core.List.{List}
@@ -7,10 +8,8 @@ use native.Mathlib.Omega.{arith}
 use borrow.Author.Tests.{leb-true, eqb-true}
 use lib.Dec.{leb, eqb}
 use lib.ListN.{length}
-use Rattle.units.specs.declared.refusal.Check.{Check}
-use Rattle.units.specs.declared.refusal.Check.TheVariants.{Accepted}
 use Rattle.units.specs.Bound.{most_rows}
-use Rattle.units.specs.Refusals.{◌then◌, keep, clear, within, placed}
+use Rattle.units.specs.Refusals.{◌then◌, keep, clear, within, placed, Check}
 use Rattle.units.proofs.Checks.{both-accepted, kept}
 use Rattle.units.proofs.Verdicts.{Refuses, refuses_none, refuses_then, refuses_keep, refuses_clear, refuses_placed}
 
@@ -18,15 +17,15 @@ abbrev pub PlacedTo : ℕ → Check → Type 0
 PlacedTo most = Refuses (λ refusal. refusal.place ≤ most)
 
 module _ {most : ℕ} where
-  pub nowhere : PlacedTo most Accepted
+  pub nowhere : PlacedTo most (Ok tt)
   nowhere = refuses_none _
 
   -- a later test may use what the earlier ones accepted
   infixl 20 ◌then_if◌
-  pub ◌then_if◌ : {a b : Check} → PlacedTo most a → (a ≡ Accepted → PlacedTo most b) → PlacedTo most (a then b)
+  pub ◌then_if◌ : {a b : Check} → PlacedTo most a → (a ≡ Ok tt → PlacedTo most b) → PlacedTo most (a then b)
   ◌then_if◌ {a} {b} A B = refuses_then _ a b A B
 
-  pub plainly : (kept : Bool) (number : ℕ) {a : Check} → a ≡ Accepted → PlacedTo most (keep kept number)
+  pub plainly : (kept : Bool) (number : ℕ) {a : Check} → a ≡ Ok tt → PlacedTo most (keep kept number)
   plainly kept number accepted = refuses_keep _ kept number (omega arith)
 
   pub at_one_of : (rows found number : ℕ) → rows ≤ suc most → PlacedTo most (clear rows found number)
@@ -38,12 +37,12 @@ module _ {most : ℕ} where
 -- ---- lists of shippers: a row is looked at after the count
 pub record Counted (rows : ℕ) (found : Check) : Type 0 where
   pub placed : PlacedTo 63 found
-  pub few : found ≡ Accepted → rows ≤ most_rows
+  pub few : found ≡ Ok tt → rows ≤ most_rows
 
 pub counted : {rows : ℕ} {before : Check} → PlacedTo 63 before → Counted rows (before then keep (leb rows most_rows) 3)
 counted P = record { placed = P then_if plainly _ 3; few = λ e. leb-true _ _ (kept _ _ (both-accepted _ _ e).1) }
 
-pub counted-list : {rows : ℕ} {before : Check} → Counted rows before → (most : ℕ) (list : List ℕ) → (before ≡ Accepted → rows ≡ length list)
+pub counted-list : {rows : ℕ} {before : Check} → Counted rows before → (most : ℕ) (list : List ℕ) → (before ≡ Ok tt → rows ≡ length list)
     → Counted rows (before then within most list)
 counted-list {rows} {before} C most list same =
     record {
@@ -54,7 +53,7 @@ counted-list {rows} {before} C most list same =
 -- two lists as long as one another, and a single figure
 pub two-lists : {single : Check} (most other : ℕ) (xs ys : List ℕ) → PlacedTo 63 single
     → Counted (length xs)
-    (Accepted
+    (Ok tt
     then keep (eqb (length xs) (length ys)) 9
     then single
     then keep (leb (length xs) most_rows) 3

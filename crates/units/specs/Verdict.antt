@@ -1,8 +1,7 @@
 -- 01, "Some places and their forms": an answer that is an enum has this paper's number and values for each of its cases.
-use Rattle.std.specs.Prelude.{◌≡◌, ℕ, ◌≤◌}
+use Rattle.std.specs.Prelude.{◌≡◌, ℕ, ◌≤◌, Ok, Err}
 use Rattle.units.specs.declared.refusal.Refusal.{Refusal}
-use Rattle.units.specs.declared.refusal.Check.{Check}
-use Rattle.units.specs.declared.refusal.Check.TheVariants.{Accepted, Refused}
+use Rattle.units.specs.Refusals.{Check}
 
 -- what an answer says: 01's number, the place, the figures
 pub record Verdict (Figures : Type 0) : Type 0 where
@@ -20,8 +19,8 @@ refusing refusal zeros = record { number = refusal.number; place = refusal.place
 
 -- a check has no figures
 abbrev pub of_check : Check → Verdict (Unit {0})
-of_check Accepted = accepting tt
-of_check (Refused refusal) = refusing refusal tt
+of_check (Ok _) = accepting tt
+of_check (Err refusal) = refusing refusal tt
 
 -- the numbers that 01 gives refusals
 pub record Numbered (refusal : Refusal) : Type 0 where
@@ -31,9 +30,9 @@ pub record Numbered (refusal : Refusal) : Type 0 where
 -- what the tests find is what an answer says: number 0 exactly where they accept, with the figures worked out; else the number and
 -- the place of the first that refuses, with zeros for figures
 pub record Decided {Figures : Type 0} (found : Check) (worked_out zeros : Figures) (verdict : Verdict Figures) : Type 0 where
-  pub accepted : found ≡ Accepted → (verdict.number ≡ 0) × (verdict.place ≡ 0) × (verdict.figures ≡ worked_out)
+  pub accepted : found ≡ Ok tt → (verdict.number ≡ 0) × (verdict.place ≡ 0) × (verdict.figures ≡ worked_out)
   pub refused :
       (refusal : Refusal)
-      → found ≡ Refused refusal
+      → found ≡ Err refusal
       → (verdict.number ≡ refusal.number) × (verdict.place ≡ refusal.place) × (verdict.figures ≡ zeros) × Numbered refusal
-  pub exactly : verdict.number ≡ 0 → found ≡ Accepted
+  pub exactly : verdict.number ≡ 0 → found ≡ Ok tt

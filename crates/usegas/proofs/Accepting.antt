@@ -1,10 +1,10 @@
 -- What acceptance says of the input.
+use Rattle.std.specs.Prelude.{Ok}
 use mathlib.Core.Path.{◌≡◌, refl}
 use mathlib.Core.List.{List}
 use Prim.Native.Nat.{ℕ, ◌≤◌}
 use native.Mathlib.Omega.{arith}
 use borrow.Author.Tests.{leb-true, not-true}
-use Rattle.units.specs.declared.refusal.Check.{Check}
 use Rattle.units.specs.Bound.{most_system_use}
 use Rattle.units.proofs.Checks.{both-accepted, kept, all-within}
 use Rattle.usegas.specs.Private.{Ready}
@@ -12,7 +12,7 @@ use Rattle.usegas.specs.General.{general_check}
 use Rattle.usegas.proofs.Scheduling.{some-schedule}
 
 pub accepting : (sug fssug foundation : ℕ) (schedules : List ℕ) (room : ℕ)
-    → general_check sug fssug foundation schedules room ≡ Check.Accepted → Ready sug fssug foundation schedules room
+    → general_check sug fssug foundation schedules room ≡ Ok tt → Ready sug fssug foundation schedules room
 unfolding general_check
 accepting sug fssug foundation schedules room e =
     let lent = both-accepted _ _ e in

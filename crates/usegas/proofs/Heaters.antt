@@ -1,4 +1,5 @@
 -- The heater's rule: nobody is excepted, and of the tests only 3, 10 and 7 can refuse.
+use Rattle.std.specs.Prelude.{Ok, Err}
 use mathlib.Core.Path.{◌≡◌, refl, ap}
 use mathlib.Core.Bool.{Bool, true, false, not, ◌&&◌}
 use mathlib.Core.List.{List}
@@ -8,9 +9,8 @@ use native.Mathlib.Omega.{arith}
 use lib.Dec.{leb, leb-zero}
 use lib.ListN.{length}
 use Rattle.columns.specs.Column.{col}
-use Rattle.units.specs.declared.refusal.Check.{Check}
 use Rattle.units.specs.Bound.{most_system_use, most_gigajoules, most_rows}
-use Rattle.units.specs.Refusals.{◌then◌, keep, within}
+use Rattle.units.specs.Refusals.{◌then◌, keep, within, Check, first_refusal}
 use Rattle.usegas.specs.Share.{none, beyond, weights, total, unscheduled}
 use Rattle.usegas.specs.General.{general_check}
 use Rattle.usegas.proofs.Shares.{weight-other}
@@ -29,13 +29,13 @@ none-placed rows = either (leb rows none)
 
 -- a test that is kept changes nothing
 passed : (a : Check) {b : Bool} (number : ℕ) → b ≡ true → (a then keep b number) ≡ a
-unfolding ◌then◌ keep
-passed Check.Accepted number e = rw e
-passed (Check.Refused x) number e = refl
+unfolding first_refusal keep
+passed (Ok _) number e = rw e
+passed (Err x) number e = refl
 
 pub heater_check : (sug : ℕ) (schedules : List ℕ) (room : ℕ)
     → general_check sug 0 none schedules room
-    ≡ (Check.Accepted
+    ≡ (Ok tt
     then keep (leb sug most_system_use) 3
     then keep (leb (length schedules) most_rows) 3
     then within most_gigajoules schedules

@@ -1,11 +1,11 @@
 -- The shares of gas that is answered with number 0 spend the net gas, in the list that a caller holds.
+use Rattle.std.specs.Prelude.{Result}
 use mathlib.Core.Path.{◌≡◌, sym, ◌∙◌}
 use mathlib.Core.List.{List}
 use Prim.Native.Nat.{ℕ, ◌-◌}
 use lib.ListN.{length}
 use Rattle.columns.proofs.Lists.{made_row, made-sum, made-rest}
 use Rattle.sharing.proofs.Parts.{parts_spent, parts_left}
-use Rattle.usegas.specs.declared.general.UseGas.{UseGas}
 use Rattle.usegas.specs.Share.{none, weights, gas_shares}
 use Rattle.usegas.specs.General.{gas_verdict, GasAnswered}
 use Rattle.usegas.specs.Heater.{HeaterAnswered}
@@ -13,8 +13,10 @@ use Rattle.usegas.specs.Promise.{GasKept}
 use Rattle.usegas.proofs.Shares.{foundation-nothing}
 use Rattle.usegas.proofs.Accepting.{accepting}
 use Rattle.usegas.proofs.Decided.{general_decided}
+use Rattle.units.specs.declared.Megajoules.{Megajoules}
+use Rattle.units.specs.declared.refusal.Refusal.{Refusal}
 
-pub general_kept : {sug fssug foundation : ℕ} {schedules lent after : List ℕ} {gas : UseGas}
+pub general_kept : {sug fssug foundation : ℕ} {schedules lent after : List ℕ} {gas : Result Megajoules Refusal}
     → GasAnswered sug fssug foundation schedules lent gas after → (gas_verdict gas).number ≡ 0
     → GasKept sug fssug foundation schedules lent gas after
 general_kept {sug} {fssug} {foundation} {schedules} {lent} {after} A zero =
@@ -35,6 +37,6 @@ general_kept {sug} {fssug} {foundation} {schedules} {lent} {after} A zero =
     }
 
 -- nobody is excepted, and FSSUG is zero
-pub heater_kept : {sug : ℕ} {schedules lent after : List ℕ} {gas : UseGas} → HeaterAnswered sug schedules lent gas after
+pub heater_kept : {sug : ℕ} {schedules lent after : List ℕ} {gas : Result Megajoules Refusal} → HeaterAnswered sug schedules lent gas after
     → (gas_verdict gas).number ≡ 0 → GasKept sug 0 none schedules lent gas after
 heater_kept A zero = general_kept A zero

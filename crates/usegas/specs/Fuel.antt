@@ -1,13 +1,12 @@
 -- 01, "System use gas"; cl. 4.3: positive imbalance fuel.
-use Rattle.std.specs.Prelude.{Bool, ℕ, ◌*◌, ◌-◌, ◌/◌, max, leb, ℤ, pos, negsuc, nat_abs}
+use Rattle.std.specs.Prelude.{Bool, ℕ, ◌*◌, ◌-◌, ◌/◌, max, leb, ℤ, pos, negsuc, nat_abs, Result, Ok, Err}
 use Rattle.units.specs.declared.Gigajoules.{Gigajoules}
 use Rattle.units.specs.declared.Megajoules.{Megajoules}
-use Rattle.units.specs.declared.refusal.Check.{Check}
 use Rattle.units.specs.Bound.{most_imbalance, most_gigajoules}
-use Rattle.units.specs.Refusals.{◌then◌, keep}
+use Rattle.units.specs.Refusals.{◌then◌, keep, Check}
 use Rattle.units.specs.Verdict.{Verdict, accepting, refusing}
 use Rattle.usegas.specs.declared.fuel.Imbalance.{Imbalance}
-use Rattle.usegas.specs.declared.fuel.ImbalanceFuel.{ImbalanceFuel}
+use Rattle.units.specs.declared.refusal.Refusal.{Refusal}
 
 -- within its bound either way
 abbrev pub bounded_size : ℤ → Bool
@@ -16,7 +15,7 @@ bounded_size imbalance = leb (nat_abs imbalance) most_imbalance
 -- refused: 3 the imbalance at start and at end of day, the MDQ
 unfoldable pub fuel_check : Imbalance → Imbalance → Gigajoules → Check
 fuel_check start end mdq =
-    Check.Accepted
+    Ok tt
     then keep (bounded_size start.0) 3
     then keep (bounded_size end.0) 3
     then keep (leb mdq.0 most_gigajoules) 3
@@ -34,14 +33,14 @@ greatest start end = record { 0 = max (positive start.0) (positive end.0) }
 abbrev pub fuel : Megajoules → Gigajoules → Megajoules
 fuel pi mdq = record { 0 = (pi.0 - 80 * mdq.0) / 100 }
 
-abbrev pub fuel_answer : Check → Megajoules → ImbalanceFuel
-fuel_answer Check.Accepted gas = ImbalanceFuel.Supplied gas
-fuel_answer (Check.Refused x) gas = ImbalanceFuel.Refused x
+abbrev pub fuel_answer : Check → Megajoules → Result Megajoules Refusal
+fuel_answer (Ok _) gas = Ok gas
+fuel_answer (Err x) gas = Err x
 
-abbrev pub imbalance_fuel : Imbalance → Imbalance → Gigajoules → ImbalanceFuel
+abbrev pub imbalance_fuel : Imbalance → Imbalance → Gigajoules → Result Megajoules Refusal
 imbalance_fuel start end mdq = fuel_answer (fuel_check start end mdq) (fuel (greatest start end) mdq)
 
 -- 01's number, place and figure of each case
-abbrev pub fuel_verdict : ImbalanceFuel → Verdict Megajoules
-fuel_verdict (ImbalanceFuel.Supplied gas) = accepting gas
-fuel_verdict (ImbalanceFuel.Refused x) = refusing x (record { 0 = 0 })
+abbrev pub fuel_verdict : Result Megajoules Refusal → Verdict Megajoules
+fuel_verdict (Ok gas) = accepting gas
+fuel_verdict (Err x) = refusing x (record { 0 = 0 })

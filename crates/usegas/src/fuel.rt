@@ -1,18 +1,11 @@
 ghost use Rattle.std.specs.Prelude.{◌≡◌};
 ghost use Rattle.usegas.specs.Fuel.{bounded_size, fuel_check, positive, fuel, imbalance_fuel};
 
-use units::{Check, Gigajoules, MOST_GIGAJOULES, MOST_IMBALANCE, Megajoules, Refusal, greater};
+use units::{Gigajoules, MOST_GIGAJOULES, MOST_IMBALANCE, Megajoules, Refusal, greater, keep};
 
 // A shipper's accumulated imbalance in megajoules, either way.
 #[derive(Clone, Copy)]
 pub struct Imbalance(pub i64);
-
-// What a shipper supplies, or why that can't be said.
-#[derive(Clone, Copy)]
-pub enum ImbalanceFuel {
-    Supplied(Megajoules),
-    Refused(Refusal),
-}
 
 // An imbalance is between these.
 const MOST: i64 = MOST_IMBALANCE.0 as i64;
@@ -51,25 +44,20 @@ fn fuel(imbalance: Megajoules, mdq: Gigajoules) -> Megajoules
 }
 
 // The first of the tests that the input fails.
-fn examine(start: Imbalance, end: Imbalance, mdq: Gigajoules) -> Check
+#[tactic(auto, unfolding(crate::specs::Fuel::fuel_check, units::specs::Refusals::first_refusal))]
+fn examine(start: Imbalance, end: Imbalance, mdq: Gigajoules) -> Result<(), Refusal>
     ensures { result ≡ fuel_check start end mdq }
 {
-    Check::Accepted
-        .keep(is_bounded(start), 3)
-        .keep(is_bounded(end), 3)
-        .keep(mdq.0 <= MOST_GIGAJOULES.0, 3)
+    keep(is_bounded(start), 3)?;
+    keep(is_bounded(end), 3)?;
+    keep(mdq.0 <= MOST_GIGAJOULES.0, 3)
 }
 
 // Cl. 4.3: the fuel of the greater positive imbalance of a day's start and end.
-pub fn imbalance_fuel(start: Imbalance, end: Imbalance, mdq: Gigajoules) -> ImbalanceFuel
+pub fn imbalance_fuel(start: Imbalance, end: Imbalance, mdq: Gigajoules) -> Result<Megajoules, Refusal>
     ensures { result ≡ imbalance_fuel start end mdq }
 {
-    let found = examine(start, end, mdq);
-    match found {
-        Check::Refused(refusal) => ImbalanceFuel::Refused(refusal),
-        Check::Accepted => {
-            let imbalance = greater(positive(start), positive(end));
-            ImbalanceFuel::Supplied(fuel(imbalance, mdq))
-        }
-    }
+    examine(start, end, mdq)?;
+    let imbalance = greater(positive(start), positive(end));
+    Ok(fuel(imbalance, mdq))
 }

@@ -4,17 +4,10 @@ ghost use Rattle.usegas.specs.Heater.{HeaterAnswered};
 use crate::examine::examine;
 use crate::fill::fill;
 use crate::weight::total_up;
-use units::{Check, Megajoules, Refusal};
+use units::{Megajoules, Refusal};
 
 // The place of the Foundation Shipper where no row is its own.
 pub const NO_FOUNDATION: usize = 255;
-
-// What the shippers supply together, or why nothing is shared.
-#[derive(Clone, Copy)]
-pub enum UseGas {
-    Shared(Megajoules),
-    Refused(Refusal),
-}
 
 // Cl. 4.2: each shipper's share of SUG less what the Foundation Shipper supplied, FSSUG, goes to the front of `shares`; a refusal
 // leaves it as it was.
@@ -24,23 +17,18 @@ pub fn share_general(
     foundation: usize,
     schedules: &[u32],
     shares: &mut [u64],
-) -> UseGas
+) -> Result<Megajoules, Refusal>
     ensures { GasAnswered gas.0 supplied.0 foundation schedules.now shares.old result shares.new }
 {
-    let found = examine(gas.0, supplied.0, foundation, schedules, shares.len());
-    match found {
-        Check::Refused(refusal) => UseGas::Refused(refusal),
-        Check::Accepted => {
-            let net = gas.0 - supplied.0;
-            let total = total_up(foundation, schedules);
-            let given = fill(net, total, foundation, schedules, shares);
-            UseGas::Shared(Megajoules(given))
-        }
-    }
+    examine(gas.0, supplied.0, foundation, schedules, shares.len())?;
+    let net = gas.0 - supplied.0;
+    let total = total_up(foundation, schedules);
+    let given = fill(net, total, foundation, schedules, shares);
+    Ok(Megajoules(given))
 }
 
 // Cl. 4.5: the same rule with nobody excepted.
-pub fn share_heater(gas: Megajoules, schedules: &[u32], shares: &mut [u64]) -> UseGas
+pub fn share_heater(gas: Megajoules, schedules: &[u32], shares: &mut [u64]) -> Result<Megajoules, Refusal>
     ensures { HeaterAnswered gas.0 schedules.now shares.old result shares.new }
 {
     share_general(gas, Megajoules(0), NO_FOUNDATION, schedules, shares)

@@ -8,5 +8,5 @@ mod general;
 mod share;
 mod weight;
 
-pub use fuel::{Imbalance, ImbalanceFuel, imbalance_fuel};
-pub use general::{NO_FOUNDATION, UseGas, share_general, share_heater};
+pub use fuel::{Imbalance, imbalance_fuel};
+pub use general::{NO_FOUNDATION, share_general, share_heater};

@@ -1,7 +1,7 @@
 // A line of the answers: 01's number and place, the figures where it is accepted, and each lent list or block whole.
 use columns::lesser;
-use std::io::{Result, Write};
-use units::{Check, Refusal};
+use std::io::{self, Write};
+use units::Refusal;
 
 // What a lent list holds before the call: no answer has it.
 pub const LENT_ROW: u32 = 4_000_000_000;
@@ -17,39 +17,39 @@ pub const MOST_ROWS: usize = 65;
 // No block: more than the lines of 64 entries.
 pub const MOST_BYTES: usize = 1_100;
 
-fn put<W: Write>(out: &mut W, figure: u64) -> Result<()> {
+fn put<W: Write>(out: &mut W, figure: u64) -> io::Result<()> {
     out.write_all(b" ")?;
     streams::print_decimal(out, figure)
 }
 
 // Figures one after another.
-pub fn put_figures<W: Write>(out: &mut W, figures: &[u64]) -> Result<()> {
+pub fn put_figures<W: Write>(out: &mut W, figures: &[u64]) -> io::Result<()> {
     for place in 0..figures.len() {
         put(out, figures[place])?;
     }
     Ok(())
 }
 
-pub fn put_refusal<W: Write>(out: &mut W, refusal: Refusal) -> Result<()> {
+pub fn put_refusal<W: Write>(out: &mut W, refusal: Refusal) -> io::Result<()> {
     put_figures(out, &[refusal.number as u64, refusal.place as u64])
 }
 
-pub fn put_check<W: Write>(out: &mut W, check: Check) -> Result<()> {
+pub fn put_check<W: Write>(out: &mut W, check: Result<(), Refusal>) -> io::Result<()> {
     match check {
-        Check::Refused(refusal) => put_refusal(out, refusal),
-        Check::Accepted => put_figures(out, &[0, 0]),
+        Err(refusal) => put_refusal(out, refusal),
+        Ok(()) => put_figures(out, &[0, 0]),
     }
 }
 
 // A lent list as it is after the call.
-pub fn put_hours<W: Write>(out: &mut W, lent: &[u64; MOST_ROWS], room: usize) -> Result<()> {
+pub fn put_hours<W: Write>(out: &mut W, lent: &[u64; MOST_ROWS], room: usize) -> io::Result<()> {
     let hours = &lent[..];
     out.write_all(b" :")?;
     put_figures(out, &hours[0..lesser(room, MOST_ROWS)])
 }
 
 // The same of gigajoules.
-pub fn put_rows<W: Write>(out: &mut W, lent: &[u32; MOST_ROWS], room: usize) -> Result<()> {
+pub fn put_rows<W: Write>(out: &mut W, lent: &[u32; MOST_ROWS], room: usize) -> io::Result<()> {
     out.write_all(b" :")?;
     for row in 0..lesser(room, MOST_ROWS) {
         put_row(out, lent[row])?;
@@ -58,12 +58,12 @@ pub fn put_rows<W: Write>(out: &mut W, lent: &[u32; MOST_ROWS], room: usize) -> 
 }
 
 // A cast of its own, so that the loop above asks for the index alone.
-fn put_row<W: Write>(out: &mut W, gigajoules: u32) -> Result<()> {
+fn put_row<W: Write>(out: &mut W, gigajoules: u32) -> io::Result<()> {
     put(out, gigajoules as u64)
 }
 
 // The same of a block of bytes, in hexadecimal.
-pub fn put_block<W: Write>(out: &mut W, lent: &[u8; MOST_BYTES], room: usize) -> Result<()> {
+pub fn put_block<W: Write>(out: &mut W, lent: &[u8; MOST_BYTES], room: usize) -> io::Result<()> {
     out.write_all(b" :")?;
     for place in 0..lesser(room, MOST_BYTES) {
         put_byte(out, lent[place])?;
@@ -71,6 +71,6 @@ pub fn put_block<W: Write>(out: &mut W, lent: &[u8; MOST_BYTES], room: usize) ->
     Ok(())
 }
 
-fn put_byte<W: Write>(out: &mut W, byte: u8) -> Result<()> {
+fn put_byte<W: Write>(out: &mut W, byte: u8) -> io::Result<()> {
     streams::print_hex(out, byte)
 }

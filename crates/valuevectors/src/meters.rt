@@ -3,7 +3,7 @@ use crate::answers::{LENT_HOUR, MOST_ROWS, put_check, put_figures, put_hours, pu
 use crate::case::word;
 use columns::lesser;
 use dayformat::Counts;
-use daymeters::{MeterFigures, MeterRow};
+use daymeters::MeterFigures;
 use metered::Side;
 use std::io::{Result, Write};
 use units::Megajoules;
@@ -28,8 +28,8 @@ pub fn answer_figures<W: Write>(
     let row = daymeters::meter_figures(counts, numbers, word(given, 0));
     out.write_all(b"meter_figures")?;
     match row {
-        MeterRow::Refused(refusal) => put_refusal(out, refusal),
-        MeterRow::Meter(meter) => put_meter(out, meter),
+        Err(refusal) => put_refusal(out, refusal),
+        Ok(meter) => put_meter(out, meter),
     }
 }
 

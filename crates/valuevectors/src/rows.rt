@@ -2,8 +2,7 @@
 use crate::answers::{put_check, put_figures, put_refusal};
 use crate::case::word;
 use dayformat::{Counts, Tag};
-use dayvalues::{PointRow, ShipperRow};
-use std::io::{Result, Write};
+use std::io::{self, Write};
 
 // The tables' tags: 2 to 5, and 9.
 fn tag_of(tag: u32) -> Tag {
@@ -21,7 +20,7 @@ pub fn answer_number<W: Write>(
     counts: Counts,
     numbers: &[usize],
     given: &[u8],
-) -> Result<()> {
+) -> io::Result<()> {
     let tag = tag_of(word(given, 0));
     let number = dayvalues::number_at(counts, numbers, tag, word(given, 1), word(given, 2));
     out.write_all(b"number_at")?;
@@ -33,7 +32,7 @@ pub fn answer_row<W: Write>(
     counts: Counts,
     numbers: &[usize],
     given: &[u8],
-) -> Result<()> {
+) -> io::Result<()> {
     let tag = tag_of(word(given, 0));
     let check = dayvalues::check_row(counts, numbers, tag, word(given, 1));
     out.write_all(b"check_row")?;
@@ -45,16 +44,16 @@ pub fn answer_shipper<W: Write>(
     counts: Counts,
     numbers: &[usize],
     given: &[u8],
-) -> Result<()> {
+) -> io::Result<()> {
     let row = dayvalues::shipper_at(counts, numbers, word(given, 0));
     out.write_all(b"shipper_at")?;
     put_shipper(out, row)
 }
 
-pub fn put_shipper<W: Write>(out: &mut W, row: ShipperRow) -> Result<()> {
+pub fn put_shipper<W: Write>(out: &mut W, row: Result<u16, Refusal>) -> io::Result<()> {
     match row {
-        ShipperRow::Refused(refusal) => put_refusal(out, refusal),
-        ShipperRow::Shipper(shipper) => put_figures(out, &[0, 0, shipper as u64]),
+        Err(refusal) => put_refusal(out, refusal),
+        Ok(shipper) => put_figures(out, &[0, 0, shipper as u64]),
     }
 }
 
@@ -63,12 +62,12 @@ pub fn answer_point<W: Write>(
     counts: Counts,
     numbers: &[usize],
     given: &[u8],
-) -> Result<()> {
+) -> io::Result<()> {
     let row = dayvalues::point_at(counts, numbers, word(given, 0));
     out.write_all(b"point_at")?;
     match row {
-        PointRow::Refused(refusal) => put_refusal(out, refusal),
-        PointRow::Point(point) => put_figures(
+        Err(refusal) => put_refusal(out, refusal),
+        Ok(point) => put_figures(
             out,
             &[
                 0,

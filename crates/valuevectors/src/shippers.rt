@@ -4,7 +4,7 @@ use crate::case::{wide, word};
 use columns::lesser;
 use dayformat::Counts;
 use dayshares::Shares;
-use dayvalues::{ColumnRows, ShipperColumn};
+use dayvalues::ShipperColumn;
 use std::io::{Result, Write};
 
 // The columns by where a row has them, 1 to 5.
@@ -43,8 +43,8 @@ pub fn answer_column<W: Write>(
     let listed = dayvalues::shipper_column(counts, numbers, column, &mut lent[0..room]);
     out.write_all(b"shipper_column")?;
     match listed {
-        ColumnRows::Refused(refusal) => put_refusal(out, refusal)?,
-        ColumnRows::Rows(rows) => {
+        Err(refusal) => put_refusal(out, refusal)?,
+        Ok(rows) => {
             put_figures(out, &[0, 0, rows as u64])?;
         }
     }
@@ -72,8 +72,8 @@ pub fn answer_shares<W: Write>(
     );
     out.write_all(b"share_numbers")?;
     match shared {
-        dayshares::Day::Refused(refusal) => put_refusal(out, refusal)?,
-        dayshares::Day::Shared(shares) => put_shares(out, shares)?,
+        Err(refusal) => put_refusal(out, refusal)?,
+        Ok(shares) => put_shares(out, shares)?,
     }
     put_rows(out, &firm, firm_room)?;
     put_rows(out, &auction, auction_room)?;

@@ -3,7 +3,6 @@ use crate::answers::{LENT_BYTE, MOST_BYTES, put_block, put_figures, put_refusal}
 use crate::case::{bytes, past, wide, word};
 use columns::lesser;
 use dayformat::Counts;
-use decimals::Decimal;
 use std::io::{Result, Write};
 use units::Megajoules;
 
@@ -28,7 +27,7 @@ pub fn answer_decimal<W: Write>(out: &mut W, given: &[u8]) -> Result<()> {
     let decimal = decimals::decimal_of(bytes(past(given, 1)), word(given, 0));
     out.write_all(b"decimal_of")?;
     match decimal {
-        Decimal::Refused(refusal) => put_refusal(out, refusal),
-        Decimal::Number(number) => put_figures(out, &[0, 0, number as u64]),
+        Err(refusal) => put_refusal(out, refusal),
+        Ok(number) => put_figures(out, &[0, 0, number as u64]),
     }
 }

@@ -2,15 +2,14 @@
 use crate::lines::{put_figures, put_megajoules, put_refusal};
 use crate::words::{MOST_ROWS, list, megajoules_of, past, past_list, signed, wide, word};
 use columns::lesser;
-use pointshares::Hour;
-use std::io::{Result, Write};
+use std::io::{self, Write};
 use units::{Gigajoules, Megajoules};
-use usegas::{Imbalance, ImbalanceFuel, UseGas};
+use usegas::Imbalance;
 
 // What a lent list holds before the call: no answer has it.
 const LENT: u64 = 4_000_000_000;
 
-pub fn answer_hour<W: Write>(out: &mut W, case: &[u32]) -> Result<()> {
+pub fn answer_hour<W: Write>(out: &mut W, case: &[u32]) -> io::Result<()> {
     let mut shares = [LENT; MOST_ROWS];
     let room = lesser(word(case, 2) as usize, MOST_ROWS);
     let entitlements = past(case, 3);
@@ -25,15 +24,15 @@ pub fn answer_hour<W: Write>(out: &mut W, case: &[u32]) -> Result<()> {
     );
     out.write_all(b"share_hour")?;
     match hour {
-        Hour::Refused(refusal) => put_refusal(out, refusal)?,
-        Hour::Shared(given) => {
+        Err(refusal) => put_refusal(out, refusal)?,
+        Ok(given) => {
             put_figures(out, &[0, 0, given.0])?;
         }
     }
     put_megajoules(out, &shares, room)
 }
 
-pub fn answer_general<W: Write>(out: &mut W, case: &[u32]) -> Result<()> {
+pub fn answer_general<W: Write>(out: &mut W, case: &[u32]) -> io::Result<()> {
     let mut shares = [LENT; MOST_ROWS];
     let room = lesser(word(case, 6) as usize, MOST_ROWS);
     let gas = usegas::share_general(
@@ -48,7 +47,7 @@ pub fn answer_general<W: Write>(out: &mut W, case: &[u32]) -> Result<()> {
     put_megajoules(out, &shares, room)
 }
 
-pub fn answer_heater<W: Write>(out: &mut W, case: &[u32]) -> Result<()> {
+pub fn answer_heater<W: Write>(out: &mut W, case: &[u32]) -> io::Result<()> {
     let mut shares = [LENT; MOST_ROWS];
     let room = lesser(word(case, 2) as usize, MOST_ROWS);
     let gas = usegas::share_heater(
@@ -61,14 +60,14 @@ pub fn answer_heater<W: Write>(out: &mut W, case: &[u32]) -> Result<()> {
     put_megajoules(out, &shares, room)
 }
 
-fn put_gas<W: Write>(out: &mut W, gas: UseGas) -> Result<()> {
+fn put_gas<W: Write>(out: &mut W, gas: Result<Megajoules, Refusal>) -> io::Result<()> {
     match gas {
-        UseGas::Refused(refusal) => put_refusal(out, refusal),
-        UseGas::Shared(given) => put_figures(out, &[0, 0, given.0]),
+        Err(refusal) => put_refusal(out, refusal),
+        Ok(given) => put_figures(out, &[0, 0, given.0]),
     }
 }
 
-pub fn answer_fuel<W: Write>(out: &mut W, case: &[u32]) -> Result<()> {
+pub fn answer_fuel<W: Write>(out: &mut W, case: &[u32]) -> io::Result<()> {
     let fuel = usegas::imbalance_fuel(
         Imbalance(signed(case, 0)),
         Imbalance(signed(case, 2)),
@@ -76,7 +75,7 @@ pub fn answer_fuel<W: Write>(out: &mut W, case: &[u32]) -> Result<()> {
     );
     out.write_all(b"imbalance_fuel")?;
     match fuel {
-        ImbalanceFuel::Refused(refusal) => put_refusal(out, refusal),
-        ImbalanceFuel::Supplied(supplied) => put_figures(out, &[0, 0, supplied.0]),
+        Err(refusal) => put_refusal(out, refusal),
+        Ok(supplied) => put_figures(out, &[0, 0, supplied.0]),
     }
 }

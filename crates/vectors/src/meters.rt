@@ -3,8 +3,8 @@ use crate::lines::{put_figures, put_refusal};
 use crate::words::{MOST_ROWS, list, megajoules_of, past, past_list, wide, word};
 use columns::lesser;
 use metered::Side;
-use overruns::{DailyOverruns, DayOverruns, Overrun, Overruns};
-use std::io::{Result, Write};
+use overruns::Overruns;
+use std::io::{self, Write};
 use units::{Gigajoules, Megajoules};
 
 // The hours of one side: 24 pairs of words.
@@ -41,14 +41,14 @@ fn side_of(case: &[u32]) -> Side {
     }
 }
 
-fn put_overrun<W: Write>(out: &mut W, overrun: Overrun) -> Result<()> {
+fn put_overrun<W: Write>(out: &mut W, overrun: Result<Megajoules, Refusal>) -> io::Result<()> {
     match overrun {
-        Overrun::Refused(refusal) => put_refusal(out, refusal),
-        Overrun::Over(over) => put_figures(out, &[0, 0, over.0]),
+        Err(refusal) => put_refusal(out, refusal),
+        Ok(over) => put_figures(out, &[0, 0, over.0]),
     }
 }
 
-pub fn answer_hourly<W: Write>(out: &mut W, case: &[u32]) -> Result<()> {
+pub fn answer_hourly<W: Write>(out: &mut W, case: &[u32]) -> io::Result<()> {
     let overrun = overruns::hourly_overrun(
         Gigajoules(word(case, 0)),
         sides_of(past(case, 1)),
@@ -58,7 +58,7 @@ pub fn answer_hourly<W: Write>(out: &mut W, case: &[u32]) -> Result<()> {
     put_overrun(out, overrun)
 }
 
-pub fn answer_twelve_hourly<W: Write>(out: &mut W, case: &[u32]) -> Result<()> {
+pub fn answer_twelve_hourly<W: Write>(out: &mut W, case: &[u32]) -> io::Result<()> {
     let lists = past(case, 2);
     let pairs = list(lists);
     let figures = megajoules_of(pairs);
@@ -76,7 +76,7 @@ pub fn answer_twelve_hourly<W: Write>(out: &mut W, case: &[u32]) -> Result<()> {
     put_overrun(out, overrun)
 }
 
-pub fn answer_daily<W: Write>(out: &mut W, case: &[u32]) -> Result<()> {
+pub fn answer_daily<W: Write>(out: &mut W, case: &[u32]) -> io::Result<()> {
     let daily = overruns::daily_overruns(
         sides_of(past(case, 8)),
         side_of(case),
@@ -84,12 +84,12 @@ pub fn answer_daily<W: Write>(out: &mut W, case: &[u32]) -> Result<()> {
     );
     out.write_all(b"daily_overruns")?;
     match daily {
-        DailyOverruns::Refused(refusal) => put_refusal(out, refusal),
-        DailyOverruns::Over(over) => put_figures(out, &[0, 0, over.receipt.0, over.delivery.0]),
+        Err(refusal) => put_refusal(out, refusal),
+        Ok(over) => put_figures(out, &[0, 0, over.receipt.0, over.delivery.0]),
     }
 }
 
-pub fn answer_overruns<W: Write>(out: &mut W, case: &[u32]) -> Result<()> {
+pub fn answer_overruns<W: Write>(out: &mut W, case: &[u32]) -> io::Result<()> {
     let day = overruns::overruns_of_day(
         Gigajoules(word(case, 0)),
         Gigajoules(word(case, 1)),
@@ -102,12 +102,12 @@ pub fn answer_overruns<W: Write>(out: &mut W, case: &[u32]) -> Result<()> {
     );
     out.write_all(b"overruns_of_day")?;
     match day {
-        DayOverruns::Refused(refusal) => put_refusal(out, refusal),
-        DayOverruns::Over(over) => put_overruns(out, over),
+        Err(refusal) => put_refusal(out, refusal),
+        Ok(over) => put_overruns(out, over),
     }
 }
 
-fn put_overruns<W: Write>(out: &mut W, over: Overruns) -> Result<()> {
+fn put_overruns<W: Write>(out: &mut W, over: Overruns) -> io::Result<()> {
     put_figures(
         out,
         &[

@@ -2,15 +2,14 @@
 use crate::lines::{put_figures, put_gigajoules, put_refusal};
 use crate::words::{MOST_ROWS, list, past, past_list, word};
 use columns::lesser;
-use dayshares::{Day, Shares};
-use rounds::Round;
-use std::io::{Result, Write};
+use dayshares::Shares;
+use std::io::{self, Write};
 use units::Gigajoules;
 
 // What a lent list holds before the call: no answer has it.
 const LENT: u32 = 4_000_000_000;
 
-pub fn answer_round<W: Write>(out: &mut W, case: &[u32]) -> Result<()> {
+pub fn answer_round<W: Write>(out: &mut W, case: &[u32]) -> io::Result<()> {
     let mut shares = [LENT; MOST_ROWS];
     let room = lesser(word(case, 1) as usize, MOST_ROWS);
     let weights = past(case, 2);
@@ -23,15 +22,15 @@ pub fn answer_round<W: Write>(out: &mut W, case: &[u32]) -> Result<()> {
     );
     out.write_all(b"share_round")?;
     match round {
-        Round::Refused(refusal) => put_refusal(out, refusal)?,
-        Round::Shared(given) => {
+        Err(refusal) => put_refusal(out, refusal)?,
+        Ok(given) => {
             put_figures(out, &[0, 0, given.level, given.total.0 as u64])?;
         }
     }
     put_gigajoules(out, &shares, room)
 }
 
-pub fn answer_day<W: Write>(out: &mut W, case: &[u32]) -> Result<()> {
+pub fn answer_day<W: Write>(out: &mut W, case: &[u32]) -> io::Result<()> {
     let mut firm = [LENT; MOST_ROWS];
     let mut auction = [LENT; MOST_ROWS];
     let mut lower_tier = [LENT; MOST_ROWS];
@@ -46,15 +45,15 @@ pub fn answer_day<W: Write>(out: &mut W, case: &[u32]) -> Result<()> {
     );
     out.write_all(b"share_day")?;
     match day {
-        Day::Refused(refusal) => put_refusal(out, refusal)?,
-        Day::Shared(shares) => put_day(out, shares)?,
+        Err(refusal) => put_refusal(out, refusal)?,
+        Ok(shares) => put_day(out, shares)?,
     }
     put_gigajoules(out, &firm, firm_room)?;
     put_gigajoules(out, &auction, auction_room)?;
     put_gigajoules(out, &lower_tier, lower_tier_room)
 }
 
-fn share_day(case: &[u32], firm: &mut [u32], auction: &mut [u32], lower_tier: &mut [u32]) -> Day {
+fn share_day(case: &[u32], firm: &mut [u32], auction: &mut [u32], lower_tier: &mut [u32]) -> Result<Shares, Refusal> {
     let firm_mdq = past(case, 5);
     let auction_mdq = past_list(firm_mdq);
     let firm_schedule = past_list(auction_mdq);
@@ -74,7 +73,7 @@ fn share_day(case: &[u32], firm: &mut [u32], auction: &mut [u32], lower_tier: &m
     )
 }
 
-fn put_day<W: Write>(out: &mut W, shares: Shares) -> Result<()> {
+fn put_day<W: Write>(out: &mut W, shares: Shares) -> io::Result<()> {
     let levels = shares.levels;
     put_figures(
         out,

@@ -1,8 +1,8 @@
 -- Each column is accepted and its part has the rows; the table that they make is the day's.
+use Rattle.std.specs.Prelude.{Ok}
 use mathlib.Core.Path.{◌≡◌}
 use mathlib.Core.List.{List}
 use Prim.Native.Nat.{ℕ, ◌≤◌}
-use Rattle.units.specs.declared.refusal.Check.{Check}
 use Rattle.units.specs.Bound.{most_rows}
 use Rattle.dayformat.specs.declared.day.Day.{Day}
 use Rattle.dayformat.specs.declared.form.Tag.TheVariants.{Shipper}
@@ -12,7 +12,7 @@ use Rattle.numbershares.proofs.Columns.{columns_accepted, few-rows, part_is, par
 use Rattle.numbershares.proofs.share_columns.Goals as goal
 
 -- an accepted day has no more rows than a table has
-few : (day : Day) (numbers : List ℕ) → early_check day numbers ≡ Check.Accepted → count day.counts Shipper ≤ most_rows
+few : (day : Day) (numbers : List ℕ) → early_check day numbers ≡ Ok tt → count day.counts Shipper ≤ most_rows
 few day numbers e = few-rows day.counts numbers (columns_accepted day numbers e)
 
 pub column_of-firm_mdq-requires : goal.column_of-firm_mdq-requires

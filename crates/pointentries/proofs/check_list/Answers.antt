@@ -5,5 +5,4 @@ use Rattle.pointentries.proofs.check_list.Goals as goal
 pub returns : goal.returns
 returns c =
     let args = c.args in
-    list-checked args.list.now args.side args.point c.walk_entries-walk.ensures
-    (rw (← c.check.ensures, ← c.keep.ensures, ← c.keep-2.ensures) c.then.ensures)
+    list-checked args.list.now args.side args.point c.walk_entries-walk.ensures c.examine.ensures

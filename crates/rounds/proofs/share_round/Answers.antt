@@ -2,22 +2,12 @@
 use mathlib.Core.Path.{sym, ◌∙◌}
 use Rattle.sharing.proofs.Levels.{level_is}
 use Rattle.rounds.proofs.Accepting.{accepting}
-use Rattle.rounds.proofs.Answers.{refuses, shares_out}
 use Rattle.rounds.proofs.share_round.Goals as goal
 
 pub level_of-level-requires : goal.level_of-level-requires
-level_of-level-requires c =
-    (accepting _ _ _ _ (sym c.examine-found.ensures ∙ c.in-Accepted.is)).rows
+level_of-level-requires c = (accepting _ _ _ _ (sym c.examine.ensures ∙ c.in_ok-examine.was)).rows
 
-pub fill-total-requires : goal.fill-total-requires
-fill-total-requires c =
-    let a = accepting _ _ _ _ (sym c.examine-found.ensures ∙ c.in-Accepted.is) in
+pub fill-requires : goal.fill-requires
+fill-requires c =
+    let a = accepting _ _ _ _ (sym c.examine.ensures ∙ c.in_ok-examine.was) in
     (a.rows, rw c.level_of-level.ensures (level_is _ _ _ _).capped, a.fits)
-
-pub returns-in-Refused : goal.returns-in-Refused
-returns-in-Refused c = refuses _ _ _ _ _ (sym c.examine-found.ensures ∙ c.in-Refused.is)
-
-pub returns-in-Accepted : goal.returns-in-Accepted
-returns-in-Accepted c =
-    shares_out _ _ _ _ _ _ _ (sym c.examine-found.ensures ∙ c.in-Accepted.is) c.level_of-level.ensures
-    c.fill-total.ensures

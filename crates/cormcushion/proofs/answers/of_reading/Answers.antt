@@ -2,9 +2,9 @@
 
 use Rattle.cormcushion.proofs.answers.of_reading.Goals as goal
 
-pub returns-in-Refused : goal.returns-in-Refused
-returns-in-Refused c = rw c.in-Refused.is c.refused.ensures
+pub returns-in-Err : goal.returns-in-Err
+returns-in-Err c = rw c.in-Err.is c.refused.ensures
 
-pub returns-in-Read : goal.returns-in-Read
-returns-in-Read c =
-    rw c.in-Read.is (rw c.numbers_of.ensures.0 at c.accepted.ensures)
+pub returns-in-Ok : goal.returns-in-Ok
+returns-in-Ok c =
+    rw c.in-Ok.is (rw c.numbers_of.ensures.0 at c.accepted.ensures)

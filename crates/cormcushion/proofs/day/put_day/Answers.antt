@@ -2,5 +2,5 @@
 
 use Rattle.cormcushion.proofs.day.put_day.Goals as goal
 
-pub returns-in-Read : goal.returns-in-Read
-returns-in-Read c = rw c.in-Read.is c.figures_of.ensures
+pub returns-in-Ok : goal.returns-in-Ok
+returns-in-Ok c = rw c.in-Ok.is c.figures_of.ensures

@@ -2,12 +2,12 @@
 use mathlib.Core.Path.{refl, sym, ◌∙◌}
 use Rattle.cormcushion.proofs.meter.price.Goals as goal
 
-pub returns-in-Refused : goal.returns-in-Refused
-returns-in-Refused c =
-    let is = sym c.overrun_charge-charge.ensures ∙ c.in-Refused.is in
+pub returns-in-Err : goal.returns-in-Err
+returns-in-Err c =
+    let is = sym c.overrun_charge.ensures ∙ c.in-Err.is in
     record { value = rw is c.refused.ensures; lent_after = rw is refl }
 
-pub returns-in-Charged : goal.returns-in-Charged
-returns-in-Charged c =
-    let is = sym c.overrun_charge-charge.ensures ∙ c.in-Charged.is in
+pub returns-in-Ok : goal.returns-in-Ok
+returns-in-Ok c =
+    let is = sym c.overrun_charge.ensures ∙ c.in-Ok.is in
     record { value = rw is c.accepted.ensures; lent_after = rw is c.figures_of.ensures }

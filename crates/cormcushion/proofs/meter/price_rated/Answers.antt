@@ -3,11 +3,11 @@ use mathlib.Core.Path.{sym, ◌∙◌}
 use Rattle.cormcushion.proofs.Charging.{refused-rate, charged}
 use Rattle.cormcushion.proofs.meter.price_rated.Goals as goal
 
-pub returns-in-Refused : goal.returns-in-Refused
-returns-in-Refused c =
-    refused-rate (sym c.keep-found.ensures ∙ c.in-Refused.is) c.refused.ensures
+pub returns-in-Err : goal.returns-in-Err
+returns-in-Err c =
+    refused-rate (sym c.keep.ensures ∙ c.in-Err.is) c.refused.ensures
 
-pub returns-in-Accepted : goal.returns-in-Accepted
-returns-in-Accepted c =
-    let is = sym c.keep-found.ensures ∙ c.in-Accepted.is in
+pub returns-in-Ok : goal.returns-in-Ok
+returns-in-Ok c =
+    let is = sym c.keep.ensures ∙ c.in-Ok.is in
     charged is c.price_day.ensures.value c.price_day.ensures.lent_after

@@ -1,11 +1,7 @@
--- Ready rows are accepted, so the answer is the round.
-use Rattle.dayshares.proofs.Holding.{holds, never}
+-- Ready rows are accepted, so there is a round to unwrap.
+use mathlib.Core.Path.{refl}
+use Rattle.rounds.proofs.Accepting.{accepts}
 use Rattle.dayshares.proofs.round.hold.Goals as goal
 
-pub returns-in-Shared : goal.returns-in-Shared
-returns-in-Shared c =
-    holds _ _ _ _ c.requires _ _ (rw c.in-Shared.is at c.share_round-round.ensures)
-
-pub returns-in-Refused : goal.returns-in-Refused
-returns-in-Refused c =
-    never _ _ _ _ c.requires _ _ (rw c.in-Refused.is at c.share_round-round.ensures)
+pub unwrap-requires : goal.unwrap-requires
+unwrap-requires c = rw (c.share_round.ensures.answers, accepts _ _ _ _ c.requires) refl

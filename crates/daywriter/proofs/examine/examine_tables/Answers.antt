@@ -1,15 +1,22 @@
-use Rattle.units.proofs.Testing.{testing_none, testing_next, testing_all}
+-- Each table is tested after those before it, and the first that fails is the answer.
+use Rattle.std.proofs.Common.{rules}
+use Rattle.std.proofs.lemmas.Result.{err_from_is_err_and}
+use Rattle.units.proofs.Testing.{passing_none, passing_next, passing_all, stopping_at}
 use Rattle.daywriter.specs.Acceptance.{tables_check}
 use Rattle.daywriter.proofs.examine.examine_tables.Goals as goal
 
 pub loop-place-init : goal.loop-place-init
-loop-place-init c = testing_none _ _
+loop-place-init c = passing_none _
+
+pub returns-in_err-clear : goal.returns-in_err-clear
+unfolding tables_check
+returns-in_err-clear c =
+    let p = err_from_is_err_and c.from_residual.result c.from_residual.ensures.1 in
+    rw (p.1, p.2) (stopping_at _ _ c.loop-place.invariant c.loop-place-test.true (search rules))
 
 pub loop-place-preserved : goal.loop-place-preserved
-loop-place-preserved c =
-    testing_next _ _ c.loop-place.invariant c.loop-place-test.true
-    (rw (← c.tag_at-tag.ensures, ← c.first_failing_row-row.ensures, ← c.count_of.ensures)) c.clear-found.ensures
+loop-place-preserved c = passing_next _ c.loop-place.invariant (search rules)
 
 pub returns : goal.returns
 unfolding tables_check
-returns c = testing_all _ _ c.loop-place.invariant c.loop-place-test.false
+returns c = passing_all _ _ c.loop-place.invariant (search rules) c.loop-place-test.false

@@ -1,10 +1,9 @@
--- A count beyond its bound is refused; else the days' figures and then their numbers are tested.
-use Rattle.month.proofs.Examining.{too_many, days-tested}
+-- The days are looked at where their count is within its bound.
+use Rattle.units.proofs.Checks.{at_most}
 use Rattle.month.proofs.examine.examine_account.Goals as goal
 
-pub returns-then-account-gt-MOST_DAYS : goal.returns-then-account-gt-MOST_DAYS
-returns-then-account-gt-MOST_DAYS c = too_many _ _ c.plain.ensures c.if-account-gt-MOST_DAYS.true
+pub examine_figures-requires : goal.examine_figures-requires
+examine_figures-requires c = at_most _ c.keep.ensures c.in_ok-keep.was
 
-pub returns : goal.returns
-returns c =
-    days-tested _ _ c.if-account-gt-MOST_DAYS.false c.examine_figures.ensures c.examine_numbers.ensures c.then.ensures
+pub examine_numbers-requires : goal.examine_numbers-requires
+examine_numbers-requires c = at_most _ c.keep.ensures c.in_ok-keep.was

@@ -1,11 +1,7 @@
--- A 32nd day is refused; else its figures, the account and its number are tested.
-use Rattle.month.proofs.Examining.{no_room, day-tested}
+-- The last day is looked at where there is room for one more.
+use native.Mathlib.Omega.{arith}
+use Rattle.units.proofs.Checks.{below}
 use Rattle.month.proofs.examine.examine_next.Goals as goal
 
-pub returns-then-count-ge-MOST_DAYS : goal.returns-then-count-ge-MOST_DAYS
-returns-then-count-ge-MOST_DAYS c = no_room _ _ _ c.plain.ensures c.if-count-ge-MOST_DAYS.true
-
-pub returns : goal.returns
-returns c =
-    day-tested _ _ _ c.if-count-ge-MOST_DAYS.false c.check.ensures c.examine_account.ensures
-    c.examine_later.ensures c.then.ensures c.then-2.ensures
+pub examine_later-requires : goal.examine_later-requires
+examine_later-requires c = omega (arith, below _ c.keep.ensures c.in_ok-keep.was)

@@ -4,10 +4,9 @@ use Rattle.monthlisting.proofs.rows.hand_in.Goals as goal
 pub loop-row-init : goal.loop-row-init
 loop-row-init c = handing_none _ c.empty-account.ensures
 
-pub returns-in-Refused : goal.returns-in-Refused
-returns-in-Refused c =
-    handing_stops _ c.loop-row.invariant c.loop-row-test.true c.take_row-taken.ensures c.in-Refused.is
-    c.placed.ensures
+pub returns-in-Err : goal.returns-in-Err
+returns-in-Err c =
+    rw c.at_row.ensures (handing_stops _ c.loop-row.invariant c.loop-row-test.true c.take_row-taken.ensures c.in-Err.is)
 
 pub loop-row-preserved : goal.loop-row-preserved
 loop-row-preserved c =

@@ -3,12 +3,12 @@ use mathlib.Core.Path.{◌≡◌, refl, sym, ◌∙◌}
 use mathlib.Core.List.{List, [], ◌++◌}
 use Prim.Native.Nat.{ℕ}
 use borrow.Author.Rules.{rules}
+use Rattle.std.proofs.lemmas.Result.{err_from_is_err_and}
 use lib.ListN.{length, take, get_or, replicate}
 use Rattle.units.specs.declared.Gigajoules.{Gigajoules}
 use Rattle.units.specs.declared.Megajoules.{Megajoules}
-use Rattle.units.specs.declared.refusal.Check.{Check}
 use Rattle.units.specs.Bound.{most_hour}
-use Rattle.units.specs.Refusals.{◌then◌, within}
+use Rattle.units.specs.Refusals.{Check, ◌then◌, within}
 use Rattle.metered.specs.declared.Side.{Side}
 use Rattle.metered.specs.Singles.{mdqs_check, sides_check}
 use Rattle.metered.specs.Hours.{bare_hours, delivered, both_days, hours_check}
@@ -48,18 +48,19 @@ module _ (p m : Gigajoules) (yesterday : List Megajoules) (hours : List (List Me
 same : (both : List ℕ) → both ≡ compared both (replicate 35 0)
 same both = sym (compared-all both (replicate 35 0) (zero-hours 35))
 
+pub returns-in_err-examine_day : goal.returns-in_err-examine_day
+returns-in_err-examine_day c =
+    let T : Tested = tested _ _ c.args.yesterday _ _ _ (search rules) c.both_days-both.ensures c.examine_day.ensures in
+    let p = err_from_is_err_and c.from_residual.result c.from_residual.ensures.1 in
+    rw (p.1, p.2) (day-refused T c.in_err-examine_day.was ∙ day-nothing T.D)
+
 pub four_overruns-requires : goal.four_overruns-requires
 four_overruns-requires c =
-    let T : Tested = tested _ _ c.args.yesterday _ _ _ (search rules) c.both_days-both.ensures c.examine_day-found.ensures in
-    let f = day-fits T c.in-Accepted.is (same c.both_days-both.result) (search rules) in
+    let T : Tested = tested _ _ c.args.yesterday _ _ _ (search rules) c.both_days-both.ensures c.examine_day.ensures in
+    let f = day-fits T c.in_ok-examine_day.was (same c.both_days-both.result) (search rules) in
     record { both_len = f.0; compared_within = f.1.0; rows_within = f.1.1 }
 
-pub returns-in-Refused : goal.returns-in-Refused
-returns-in-Refused c =
-    let T : Tested = tested _ _ c.args.yesterday _ _ _ (search rules) c.both_days-both.ensures c.examine_day-found.ensures in
-    day-refused T c.in-Refused.is ∙ day-nothing T.D
-
-pub returns-in-Accepted : goal.returns-in-Accepted
-returns-in-Accepted c =
-    let T : Tested = tested _ _ c.args.yesterday _ _ _ (search rules) c.both_days-both.ensures c.examine_day-found.ensures in
-    day-over T c.in-Accepted.is (same c.both_days-both.result) c.four_overruns.ensures ∙ day-nothing T.D
+pub returns : goal.returns
+returns c =
+    let T : Tested = tested _ _ c.args.yesterday _ _ _ (search rules) c.both_days-both.ensures c.examine_day.ensures in
+    day-over T c.in_ok-examine_day.was (same c.both_days-both.result) c.four_overruns.ensures ∙ day-nothing T.D

@@ -3,12 +3,12 @@ use mathlib.Core.Path.{◌≡◌}
 use mathlib.Core.List.{List, []}
 use Prim.Native.Nat.{ℕ}
 use borrow.Author.Rules.{rules}
+use Rattle.std.proofs.lemmas.Result.{err_from_is_err_and}
 use lib.ListN.{length, take, get_or}
 use Rattle.units.specs.declared.Gigajoules.{Gigajoules}
 use Rattle.units.specs.declared.Megajoules.{Megajoules}
-use Rattle.units.specs.declared.refusal.Check.{Check}
 use Rattle.units.specs.Bound.{most_hour}
-use Rattle.units.specs.Refusals.{◌then◌, within}
+use Rattle.units.specs.Refusals.{Check, ◌then◌, within}
 use Rattle.metered.specs.declared.Side.{Side}
 use Rattle.metered.specs.Singles.{mdqs_check, sides_check}
 use Rattle.metered.specs.Hours.{both_days, hours_check}
@@ -25,10 +25,9 @@ module _ (p m : Gigajoules) (yesterday : List Megajoules) (hours : List (List Me
     (eleven : length yesterday ≡ 11) (excused_eleven : length excused_yesterday ≡ 11) {both excused_both : List ℕ}
     (joined : both ≡ both_days yesterday (get_or hours 0 []))
     (excused_joined : excused_both ≡ both_days excused_yesterday (get_or excused_hours 0 []))
-    {metered less tests less_today found : Check}
-    (d : metered ≡ (mdqs_check p m then sides_check receipt delivery then within most_hour (take 11 both) then hours_check hours))
-    (l : less ≡ excused_check (take 11 both) (take 11 excused_both)) (t : tests ≡ (metered then less))
-    (h : less_today ≡ excused_hours_check hours excused_hours) (f : found ≡ (tests then less_today)) where
+    {found : Check}
+    (f : found ≡ (mdqs_check p m then sides_check receipt delivery then within most_hour (take 11 both) then hours_check hours
+    then excused_check (take 11 both) (take 11 excused_both) then excused_hours_check hours excused_hours)) where
   abbrev day : ShipperDay
   day = record { p = p; m = m; yesterday = yesterday; hours = hours; receipt = receipt; delivery = delivery }
 
@@ -41,10 +40,6 @@ module _ (p m : Gigajoules) (yesterday : List Megajoules) (hours : List (List Me
   checked =
       rw (
         f,
-        h,
-        t,
-        l,
-        d,
         excused_joined,
         joined,
         first-days yesterday (get_or hours 0 []) eleven,
@@ -63,27 +58,25 @@ module _ (p m : Gigajoules) (yesterday : List Megajoules) (hours : List (List Me
     checked = checked;
   }
 
+pub returns-in_err-examine_excused_day : goal.returns-in_err-examine_excused_day
+returns-in_err-examine_excused_day c =
+    let T : Tested =
+    tested _ _ c.args.yesterday _ _ _ c.args.excused_yesterday _ (search rules) (search rules) c.both_days-both.ensures
+    c.both_days-excused_both.ensures c.examine_excused_day.ensures in
+    let p = err_from_is_err_and c.from_residual.result c.from_residual.ensures.1 in
+    rw (p.1, p.2) (day-refused T c.in_err-examine_excused_day.was)
+
 pub four_overruns-requires : goal.four_overruns-requires
 four_overruns-requires c =
     let T : Tested =
     tested _ _ c.args.yesterday _ _ _ c.args.excused_yesterday _ (search rules) (search rules) c.both_days-both.ensures
-    c.both_days-excused_both.ensures c.examine_day.ensures c.examine_excused.ensures c.then.ensures c.examine_excused_hours.ensures
-    c.then-found.ensures in
-    let f = day-fits T c.in-Accepted.is c.compared_days-compared.ensures (search rules) in
+    c.both_days-excused_both.ensures c.examine_excused_day.ensures in
+    let f = day-fits T c.in_ok-examine_excused_day.was c.compared_days-compared.ensures (search rules) in
     record { both_len = f.0; compared_within = f.1.0; rows_within = f.1.1 }
 
-pub returns-in-Refused : goal.returns-in-Refused
-returns-in-Refused c =
+pub returns : goal.returns
+returns c =
     let T : Tested =
     tested _ _ c.args.yesterday _ _ _ c.args.excused_yesterday _ (search rules) (search rules) c.both_days-both.ensures
-    c.both_days-excused_both.ensures c.examine_day.ensures c.examine_excused.ensures c.then.ensures c.examine_excused_hours.ensures
-    c.then-found.ensures in
-    day-refused T c.in-Refused.is
-
-pub returns-in-Accepted : goal.returns-in-Accepted
-returns-in-Accepted c =
-    let T : Tested =
-    tested _ _ c.args.yesterday _ _ _ c.args.excused_yesterday _ (search rules) (search rules) c.both_days-both.ensures
-    c.both_days-excused_both.ensures c.examine_day.ensures c.examine_excused.ensures c.then.ensures c.examine_excused_hours.ensures
-    c.then-found.ensures in
-    day-over T c.in-Accepted.is c.compared_days-compared.ensures c.four_overruns.ensures
+    c.both_days-excused_both.ensures c.examine_excused_day.ensures in
+    day-over T c.in_ok-examine_excused_day.was c.compared_days-compared.ensures c.four_overruns.ensures

@@ -14,20 +14,20 @@ slice_bounds-share_hour-end c =
 pub slice_bounds-share_hour-end-2 : goal.slice_bounds-share_hour-end-2
 slice_bounds-share_hour-end-2 c = front_long _ _ (omega arith) c.entries_in-many.ensures.0 c.mdqs_in-mdqs.ensures
 
-pub returns-in-Refused : goal.returns-in-Refused
-returns-in-Refused c = (
+pub returns-in-Err : goal.returns-in-Err
+returns-in-Err c = (
   hour-refused _ _ _ _ _ (omega arith)
       (front_is _ _ (omega arith) c.entries_in-many.ensures.0 c.entitlements_in-entitlements.ensures)
       (front_is _ _ (omega arith) c.entries_in-many.ensures.0 c.mdqs_in-mdqs.ensures) (length-replicate {A = ℕ} most_entries 0)
-      c.share_hour-hour.ensures c.in-Refused.is c.put_refusal.ensures.0,
+      c.share_hour.ensures c.in-Err.is c.put_refusal.ensures.0,
   omega (arith, c.put_refusal.ensures.1),
 )
 
-pub returns-in-Shared : goal.returns-in-Shared
-returns-in-Shared c = (
+pub returns-in-Ok : goal.returns-in-Ok
+returns-in-Ok c = (
   hour-shared _ _ _ _ _ (omega arith)
       (front_is _ _ (omega arith) c.entries_in-many.ensures.0 c.entitlements_in-entitlements.ensures)
       (front_is _ _ (omega arith) c.entries_in-many.ensures.0 c.mdqs_in-mdqs.ensures) (length-replicate {A = ℕ} most_entries 0)
-      c.share_hour-hour.ensures c.in-Shared.is (laid_from c.args.at c.lesser.ensures c.put_shares.ensures.0),
+      c.share_hour.ensures c.in-Ok.is (laid_from c.args.at c.lesser.ensures c.put_shares.ensures.0),
   c.put_shares.ensures.1,
 )

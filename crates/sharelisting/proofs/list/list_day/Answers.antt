@@ -9,16 +9,14 @@ lay_shares-requires c =
     let sound-of : Sound c.args.day c.args.numbers.now = c.requires in
     sound-of.few Shipper
 
-pub returns-in-Refused : goal.returns-in-Refused
-returns-in-Refused c =
+pub returns-in_err-shares : goal.returns-in_err-shares
+returns-in_err-shares c =
     let sound-of : Sound c.args.day c.args.numbers.now = c.requires in
-    never_refused c.args.day c.args.numbers.now sound-of c.share_numbers-shared.ensures _
-    c.in-Refused.is
+    never_refused c.args.day c.args.numbers.now sound-of c.share_numbers.ensures _ c.in_err-shares.was
 
-pub returns-in-Shared : goal.returns-in-Shared
-returns-in-Shared c =
+pub returns : goal.returns
+returns c =
     let sound-of : Sound c.args.day c.args.numbers.now = c.requires in
     let is =
-    text_is c.args.day c.args.numbers.now sound-of c.share_numbers-shared.ensures _
-    c.in-Shared.is
+    text_is c.args.day c.args.numbers.now sound-of c.share_numbers.ensures _ c.in_ok-shares.was
     in rw is at c.lay_shares.ensures

@@ -2,10 +2,10 @@
 use Rattle.month.proofs.Closing.{kept_open, closed}
 use Rattle.month.proofs.account.Account.close.Goals as goal
 
-pub returns-in-Refused : goal.returns-in-Refused
-returns-in-Refused c =
-    kept_open _ c.list_account-listing.ensures c.in-Refused.is
+pub returns-in-Err : goal.returns-in-Err
+returns-in-Err c =
+    kept_open _ c.list_account-listing.ensures c.in-Err.is
 
-pub returns-in-Text : goal.returns-in-Text
-returns-in-Text c =
-    closed _ c.list_account-listing.ensures c.in-Text.is c.empty-self.ensures
+pub returns-in-Ok : goal.returns-in-Ok
+returns-in-Ok c =
+    closed _ c.list_account-listing.ensures c.in-Ok.is c.empty.ensures
