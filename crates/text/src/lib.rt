@@ -17,7 +17,7 @@ pub fn decimal_length(number: u64) -> usize
 fn last_digit(number: u64) -> u8
     ensures { result ≡ last_digit number }
 {
-    48 + (number % 10) as u8
+    b'0' + (number % 10) as u8
 }
 
 // Lays a number's digits from `at` on, the last of them first, and returns how many there are.
