@@ -1,11 +1,19 @@
 -- The first marked row: how a search finds it, and what it says of the rows.
 use mathlib.Core.Path.{◌≡◌, refl, ap, sym, ◌∙◌}
 use mathlib.Core.Logic.{⊎_elim, ◌⊎◌, inl, inr}
-use mathlib.Core.Bool.{Bool, true, false, cond, true≢false}
+use mathlib.Core.Bool.{Bool, true, false, cond, not, true≢false}
+use mathlib.Core.List.{List}
 use Prim.Native.Nat.{ℕ, zero, suc, ◌+◌, ◌≤◌, ◌<◌}
 use native.Mathlib.Nat.{le_antisymm, eq-or-lt_of_le}
 use borrow.Author.Count.{below_more}
+use borrow.Author.Tests.{lt-ltb, le-ltb}
 use native.Mathlib.Omega.{arith}
+use lib.Dec.{ltb}
+use lib.ListN.{length}
+use Rattle.std.specs.List.{position_or_len, position}
+use Rattle.std.specs.Prelude.{unwrap_or, Some, None}
+use Rattle.std.proofs.lemmas.List.Sums.{prefix_len-le-length, fails_before_first, passes_at_first}
+use Rattle.columns.specs.Column.{col}
 use Rattle.columns.specs.First.{first_from, first}
 
 module _ (p : ℕ → Bool) where
@@ -110,3 +118,29 @@ pub kept-passed : {Failed Passed : Type 0} {before after : Bool} → (Failed × 
     → after ≡ true → Passed × (before ≡ true)
 kept-passed (inl failed) e = absurd (true≢false (sym e ∙ failed.1))
 kept-passed (inr passed) e = (passed.0, sym passed.1 ∙ e)
+
+-- ---- the library's search of a list: the place of its first element that a test marks, or its length
+module _ {X : Type 0} (p : X → Bool) where
+  pub unwrap_or-position : (xs : List X) → unwrap_or (position p xs) (length xs) ≡ position_or_len p xs
+  unwrap_or-position xs =
+      unwrapped (ltb place (length xs)) ∙ ⊎_elim (λ e. rw (le-ltb place (length xs) (omega (arith, e))) (sym e))
+      (λ l. rw (lt-ltb place (length xs) l)) (eq-or-lt_of_le (prefix_len-le-length (λ x. not (p x)) xs))
+    where
+      place : ℕ
+      place = position_or_len p xs
+
+      unwrapped : (m : Bool) → unwrap_or (cond m (Some place) None) (length xs) ≡ cond m place (length xs)
+      unwrapped true = refl
+      unwrapped false = refl
+
+-- in a column it is the first marked row
+pub position-first : (p : ℕ → Bool) (xs : List ℕ) → position_or_len p xs ≡ first (length xs) (λ i. p (col xs i))
+position-first p xs = by (eq-or-lt_of_le (prefix_len-le-length (λ x. not (p x)) xs))
+  where
+    by : (position_or_len p xs ≡ length xs) ⊎ (position_or_len p xs < length xs)
+        → position_or_len p xs ≡ first (length xs) (λ i. p (col xs i))
+    by (inl e) = e ∙ sym (first-none (λ i. p (col xs i)) (length xs) (λ k l. fails_before_first p xs k 0 (omega (arith, e))))
+    by (inr l) =
+        sym
+        (first_found (λ i. p (col xs i)) (length xs) (position_or_len p xs) l (λ k h. fails_before_first p xs k 0 h)
+        (passes_at_first p xs 0 l))

@@ -13,15 +13,12 @@ pub fn lesser(one: usize, other: usize) -> usize
     other
 }
 
-// Lays a byte so many places past `at`. The place is compared with what the block has past `at`, for the sum may not fit.
+// Lays a byte so many places past `at`. A sum that does not fit is past every block too.
 pub fn put_byte(byte: u8, block: &mut [u8], at: usize, place: usize)
     ensures { block.new ≡ set block.old (at + place) byte }
 {
-    if block.len() <= at {
-        return;
+    let index = at.saturating_add(place);
+    if index < block.len() {
+        block[index] = byte;
     }
-    if block.len() - at <= place {
-        return;
-    }
-    block[at + place] = byte;
 }

@@ -1,21 +1,42 @@
--- What the first digits of a word spell, up to the first number beyond a bound.
+-- The first byte of a word that is no digit, and what its first digits spell, up to the first number beyond a bound.
 use Rattle.std.specs.Prelude.{Ok}
-use mathlib.Core.Path.{◌≡◌, refl, sym, ◌∙◌}
+use mathlib.Core.Path.{◌≡◌, refl, ap, sym, ◌∙◌}
+use mathlib.Core.Bool.{not}
 use mathlib.Core.List.{List, [], ◌∷◌}
 use Prim.Native.Nat.{ℕ, zero, suc, ◌+◌, ◌-◌, ◌*◌, ◌≤◌, ◌<◌, min}
 use native.Mathlib.Numerals.{add-one}
 use native.Mathlib.Decide.{dec_lt}
 use native.Mathlib.Omega.{arith}
-use borrow.Author.Tests.{leb-true, le-leb, lt-leb}
+use borrow.Author.Tests.{leb-true, le-leb, lt-leb, lt-ltb, le-ltb}
 use lib.Dec.{leb}
 use lib.ListN.{length, take}
 use lib.Seq.{take_all}
+use Rattle.std.specs.Char.{is_ascii_digit}
+use Rattle.std.specs.List.{position_or_len}
 use Rattle.columns.specs.Column.{col}
+use Rattle.columns.specs.First.{first}
+use Rattle.columns.proofs.Firsts.{first-same, position-first}
 use Rattle.units.proofs.Checks.{both-accepted, kept}
 use Rattle.text.specs.Text.{value_after, value}
-use Rattle.decimals.specs.Word.{word_check}
+use Rattle.decimals.specs.Word.{is_digit, word_check}
 
--- one digit more
+-- ---- the library's digits are those of a word
+digit-is : (byte : ℕ) → is_ascii_digit byte ≡ is_digit byte
+unfolding is_digit
+digit-is byte = by (dec_lt byte 48)
+  where
+    by : Dec (byte < 48) → is_ascii_digit byte ≡ is_digit byte
+    by (yes l) = rw (lt-leb 48 byte l, lt-ltb byte 48 l)
+    by (no h) = rw (le-leb 48 byte (omega arith), le-ltb byte 48 (omega arith))
+
+-- so its search finds the first byte that is none
+pub first-other : (word : List ℕ) → position_or_len (λ byte. not (is_ascii_digit byte)) word
+    ≡ first (length word) (λ place. not (is_digit (col word place)))
+first-other word =
+    position-first (λ byte. not (is_ascii_digit byte)) word
+    ∙ first-same (length word) _ _ (λ i l. ap not (digit-is (col word i)))
+
+-- ---- one digit more
 value-more : (above : ℕ) (word : List ℕ) (place : ℕ) → place < length word
     → value_after above (take (suc place) word) ≡ value_after above (take place word) * 10 + (col word place - 48)
 unfolding value_after

@@ -1,51 +1,21 @@
 // A word read as one decimal number within a bound, opened.
 #![tactic(auto)]
 
-ghost use Rattle.std.specs.Prelude.{◌≡◌, not, ◌+◌, ◌-◌, min, ◌<◌, length};
+ghost use Rattle.std.specs.Prelude.{◌≡◌, not, ◌+◌, min, length};
 ghost use Rattle.columns.specs.Column.{col};
 ghost use Rattle.columns.specs.First.{first};
 ghost use Rattle.text.specs.Text.{value};
 ghost use Rattle.decimals.specs.Word.{is_digit, decimal_of};
 
-use columns::lesser;
 use units::{Refusal, keep};
-
-// The byte of 0, and that of 9.
-const ZERO: u8 = 48;
-
-const NINE: u8 = 57;
-
-fn is_digit(byte: u8) -> bool
-    ensures { result ≡ is_digit byte }
-{
-    if byte < ZERO {
-        return false;
-    }
-    byte <= NINE
-}
 
 // The place of the first byte that is no digit, or the word's length.
 fn first_other(word: &[u8]) -> usize
     ensures { result ≡ first (length word.now) (λ place. not (is_digit (col word.now place))) }
 {
-    let mut place = 0;
-    while place < word.len() {
-        if !is_digit(word[place]) {
-            return place;
-        }
-        place += 1;
-    }
-    place
-}
-
-// What a digit stands for.
-fn digit_of(byte: u8) -> usize
-    ensures { (result ≡ byte - 48) × (result < 256) }
-{
-    if byte < ZERO {
-        return 0;
-    }
-    (byte - ZERO) as usize
+    word.iter()
+        .position(|byte| !byte.is_ascii_digit())
+        .unwrap_or(word.len())
 }
 
 // The smaller of what digits spell and the first number beyond a bound, however many digits there are.
@@ -54,10 +24,9 @@ fn value_up_to(word: &[u8], most: u32) -> usize
 {
     let beyond = most as usize + 1;
     let mut number = 0;
-    let mut place = 0;
-    while place < word.len() {
-        number = lesser(number * 10 + digit_of(word[place]), beyond);
-        place += 1;
+    for byte in word {
+        let digit = byte.saturating_sub(b'0') as usize;
+        number = (number * 10 + digit).min(beyond);
     }
     number
 }

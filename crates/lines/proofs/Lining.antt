@@ -1,13 +1,14 @@
 -- Lines laid word after word, and texts laid where the block ends.
 use mathlib.Core.Path.{◌≡◌, refl, ap, sym, ◌∙◌}
 use mathlib.Core.List.{List, [], ◌∷◌, ◌++◌, append_assoc}
-use Prim.Native.Nat.{ℕ, suc, ◌+◌, ◌-◌, ◌≤◌, ◌<◌, min}
+use Prim.Native.Nat.{ℕ, suc, ◌+◌, ◌≤◌, ◌<◌, min}
 use native.Mathlib.Nat.{add-zero, zero-add, add_assoc}
 use native.Mathlib.Numerals.{add-one}
 use native.Mathlib.Decide.{dec_lt}
 use native.Mathlib.Omega.{arith}
-use lib.ListN.{length, take, drop, set, drop_of_length-le}
-use lib.Seq.{length-sets, length-take-le, drop-cons, take_all}
+use lib.ListN.{length, length-append, take, drop, set, get_or-append}
+use lib.Seq.{length-sets, length-take-le, drop-cons, drop_at, take_all}
+use Rattle.std.specs.List.{IsLastAndRest}
 use Rattle.columns.specs.Column.{col}
 use Rattle.columns.proofs.Laying.{sets-past}
 use Rattle.units.specs.declared.refusal.Refusal.{Refusal}
@@ -19,6 +20,10 @@ use Rattle.lines.specs.Line.{most_figures, spaced, labelled, decimals, line, tit
 pub laid-ended : {bytes lent between after : List ℕ} {at m : ℕ} (byte : ℕ) → Laid bytes lent at m between
     → after ≡ set between (at + m) byte → Laid (bytes ++ (byte ∷ [])) lent at (m + 1) after
 laid-ended byte L e = laid_both L (record { counts = refl; lays = e })
+
+-- so a word and a space are one byte more than the word
+pub spaced_long : (word : List ℕ) {lent after : List ℕ} {at r : ℕ} → Laid (spaced word) lent at r after → r ≡ length word + 1
+spaced_long word L = L.counts ∙ length-append word (32 ∷ [])
 
 -- for callers: a word laid before the rest of its line
 pub line_word : (word next : List ℕ) (words : List (List ℕ)) {lent between after : List ℕ} {at m n : ℕ}
@@ -79,28 +84,32 @@ unfolding line
 figures-none [] none e = record { counts = refl; lays = rw add-zero at e }
 figures-none (figure ∷ figures) none e = absurd (omega arith)
 
-module _ (figures : List ℕ) (place : ℕ) where
-  line-next : place + 1 < length figures
-      → line (decimals (drop place figures)) ≡ spaced (decimal (col figures place)) ++ line (decimals (drop (place + 1) figures))
+module _ (figures others : List ℕ) (last : ℕ) (parts : IsLastAndRest figures last others) (place : ℕ) where
+  line-next : place < length others
+      → line (decimals (drop place figures)) ≡ spaced (decimal (col others place)) ++ line (decimals (drop (place + 1) figures))
   unfolding line
-  line-next l = rw (add-one, drop-cons figures place 0 (omega arith), drop-cons figures (suc place) 0 (omega arith))
+  line-next l =
+      let other : col figures place ≡ col others place = rw parts.0 (get_or-append others (last ∷ []) 0 place l) in
+      rw (
+        add-one,
+        drop-cons figures place 0 (omega (arith, parts.1)),
+        drop-cons figures (suc place) 0 (omega (arith, parts.1)),
+        other,
+      )
 
-  line-last : place + 1 ≡ length figures → line (decimals (drop place figures)) ≡ decimal (col figures place) ++ (10 ∷ [])
+  line-last : place ≡ length others → line (decimals (drop place figures)) ≡ decimal last ++ (10 ∷ [])
   unfolding line
-  line-last e = rw (drop-cons figures place 0 (omega arith), drop_of_length-le figures {i = suc place} (omega arith))
+  line-last e = rw (parts.0, drop_at others (last ∷ []) place (sym e))
 
   module _ {whole lent list after : List ℕ} {at size m : ℕ}
       (L : Lining whole lent at (line (decimals (drop place figures))) list size) where
-    pub figures-next : place + 1 < length figures → Laid (spaced (decimal (col figures place))) list (at + size) m after
+    pub figures-next : place < length others → Laid (spaced (decimal (col others place))) list (at + size) m after
         → Lining whole lent at (line (decimals (drop (place + 1) figures))) after (size + m)
     figures-next l a = lining_next (rw (line-next l) at L) a
 
-    pub figures-last : place + 1 ≡ length figures
-        → Laid (decimal (col figures (length figures - 1)) ++ (10 ∷ [])) list (at + size) m after
+    pub figures-last : place ≡ length others → Laid (decimal last ++ (10 ∷ [])) list (at + size) m after
         → Laid whole lent at (size + m) after
-    figures-last e a =
-        let here : length figures - 1 ≡ place = omega arith in
-        L.finishes (rw (line-last e) (rw here at a))
+    figures-last e a = L.finishes (rw (line-last e) a)
 
 -- ---- of a longer list as many figures as a line may have
 module _ (figures : List ℕ) (many : ℕ) (few : many ≡ min (length figures) most_figures) where

@@ -6,7 +6,7 @@ ghost use Rattle.text.specs.Text.{decimal, Laid};
 ghost use Rattle.lines.specs.Line.{most_figures, spaced, labelled, decimals, line, refused};
 ghost use Rattle.lines.specs.Answer.{ListingAnswered};
 
-use columns::{lesser, put_byte};
+use columns::put_byte;
 use text::{put_bytes, put_decimal};
 use units::Refusal;
 
@@ -37,7 +37,7 @@ pub fn put_labelled(word: &[u8], figure: u64, text: &mut [u8], at: usize) -> usi
     ensures { (Laid (labelled word.now figure) text.old at result text.new)
         × (result ≤ length word.now + 22) }
 {
-    let from = lesser(at, text.len());
+    let from = at.min(text.len());
     let length = put_word(word, text, from);
     length + put_figure(figure, text, from + length)
 }
@@ -47,8 +47,8 @@ pub fn put_line(figures: &[u64], text: &mut [u8], at: usize) -> usize
     ensures { (Laid (line (decimals (take most_figures figures.now))) text.old at result text.new)
         × (result < 2 ^ 11) }
 {
-    let many = lesser(figures.len(), MOST_FIGURES);
-    let from = lesser(at, text.len());
+    let many = figures.len().min(MOST_FIGURES);
+    let from = at.min(text.len());
     put_figures(&figures[..many], text, from)
 }
 
@@ -56,7 +56,7 @@ pub fn put_line(figures: &[u64], text: &mut [u8], at: usize) -> usize
 pub fn put_refusal(refusal: Refusal, text: &mut [u8], at: usize) -> usize
     ensures { (Laid (refused refusal) text.old at result text.new) × (result < 2 ^ 12) }
 {
-    let from = lesser(at, text.len());
+    let from = at.min(text.len());
     let title = put_word(b"REFUSED", text, from);
     let row = [refusal.number as u64, refusal.place as u64];
     title + put_line(&row, text, from + title)
@@ -89,16 +89,13 @@ fn put_figures(figures: &[u64], text: &mut [u8], at: usize) -> usize
     requires { (length figures.now ≤ most_figures) × (at ≤ length text.old) }
     ensures { (Laid (line (decimals figures.now)) text.old at result text.new) × (result < 2 ^ 11) }
 {
-    if figures.len() == 0 {
+    let Some((last, others)) = figures.split_last() else {
         put_byte(LINE_END, text, at, 0);
         return 1;
-    }
-    let last = figures.len() - 1;
-    let mut place = 0;
+    };
     let mut size = 0;
-    while place < last {
-        size += put_ended(figures[place], SPACE, text, at + size);
-        place += 1;
+    for figure in others {
+        size += put_ended(*figure, SPACE, text, at + size);
     }
-    size + put_ended(figures[last], LINE_END, text, at + size)
+    size + put_ended(*last, LINE_END, text, at + size)
 }

@@ -2,8 +2,8 @@
 use mathlib.Core.Path.{◌≡◌, refl, ap, sym, ◌∙◌}
 use mathlib.Core.List.{List, [], ◌∷◌, ◌++◌}
 use mathlib.Core.Logic.{⊎_elim}
-use Prim.Native.Nat.{ℕ, zero, suc, ◌+◌, ◌-◌, ◌*◌, ◌/◌, ◌^◌, ◌≤◌, ◌<◌}
-use native.Mathlib.Nat.{pow-suc, le_of_suc-le-suc, eq-or-lt_of_le}
+use Prim.Native.Nat.{ℕ, zero, suc, ◌+◌, ◌-◌, ◌*◌, ◌/◌, ◌^◌, ◌≤◌, ◌<◌, max}
+use native.Mathlib.Nat.{pow-suc, one-le-pow, le_of_suc-le-suc, eq-or-lt_of_le}
 use native.Mathlib.Numerals.{add-one}
 use native.Mathlib.Decide.{dec_lt}
 use native.Mathlib.Omega.{arith}
@@ -67,12 +67,41 @@ length_more n h = rw (decimal-more n h) (length-append (decimal (n / 10)) (last_
 pub some_byte : (n : ℕ) → 1 ≤ length (decimal n)
 some_byte = by_tens (λ n. 1 ≤ length (decimal n)) (λ n h. omega (arith, length-one n h)) (λ n h p. omega (arith, length_more n h))
 
+-- one digit spells a number below ten, and more digits spell one from ten on
+pub one_digit : (n : ℕ) → length (decimal n) ≤ 1 → n ≤ 9
+one_digit n h = one_or_more n (λ l. l) (λ l. omega (arith, length_more n l, some_byte (n / 10)))
+
+pub more_digits : (n : ℕ) → 1 < length (decimal n) → 9 < n
+more_digits n h = one_or_more n (λ l. omega (arith, length-one n l)) (λ l. l)
+
 -- so many digits are enough for a number below that power of ten
 pub length-below : (k n : ℕ) → n < 10 ^ suc k → length (decimal n) ≤ suc k
 length-below zero n h = omega (arith, length-one n (omega arith))
 length-below (suc k) n h =
     one_or_more n (λ l. omega (arith, length-one n l))
     (λ l. omega (arith, length_more n l, length-below k (n / 10) (omega (arith, pow-suc 10 (suc k)))))
+
+-- and from that power of ten on one more is needed
+length-from : (k n : ℕ) → 10 ^ k ≤ n → suc k ≤ length (decimal n)
+length-from zero n h = some_byte n
+length-from (suc k) n h =
+    let tens : 10 ^ suc k ≡ 10 ^ k * 10 = pow-suc 10 k in
+    let some : 1 ≤ 10 ^ k = one-le-pow k 10 (omega arith) in
+    omega (arith, length_more n (omega (arith, tens, some)), length-from k (n / 10) (omega (arith, tens)))
+
+-- so the power of ten that a number reaches says how long it is, and zero is as long as one
+pub length-reached : (n k : ℕ) → 10 ^ k ≤ max n 1 → max n 1 < 10 * 10 ^ k → k + 1 ≡ length (decimal n)
+length-reached n k reached below = by (dec_lt 0 n)
+  where
+    by : Dec (0 < n) → k + 1 ≡ length (decimal n)
+    by (yes l) =
+        let tens : 10 ^ suc k ≡ 10 ^ k * 10 = pow-suc 10 k in
+        omega (arith, tens, length-below k n (omega (arith, tens)), length-from k n (omega arith))
+    by (no h) = none k (omega arith) (omega arith)
+      where
+        none : (k : ℕ) → n ≤ 0 → 10 ^ k ≤ 1 → k + 1 ≡ length (decimal n)
+        none zero zeros one = omega (arith, length-one n (omega arith))
+        none (suc k) zeros one = omega (arith, pow-suc 10 k, one-le-pow k 10 (omega arith))
 
 pub at_most_twenty : (n : ℕ) → n < 2 ^ 64 → length (decimal n) ≤ 20
 at_most_twenty n h = length-below 19 n (omega arith)

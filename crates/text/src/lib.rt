@@ -6,24 +6,18 @@ ghost use Rattle.text.specs.Text.{last_digit, decimal, Laid};
 
 use columns::put_byte;
 
-// How many bytes spell a number.
+// How many bytes spell a number: zero has one too.
 pub fn decimal_length(number: u64) -> usize
     ensures { result ≡ length (decimal number) }
 {
-    let mut length = 1;
-    let mut rest = number;
-    while 9 < rest {
-        length += 1;
-        rest /= 10;
-    }
-    length
+    number.max(1).ilog10() as usize + 1
 }
 
 // The byte of a number's last digit.
 fn last_digit(number: u64) -> u8
     ensures { result ≡ last_digit number }
 {
-    48 + (number % 10) as u8
+    b'0' + (number % 10) as u8
 }
 
 // Lays a number's digits from `at` on, the last of them first, and returns how many there are.
@@ -35,14 +29,11 @@ pub fn put_decimal(number: u64, text: &mut [u8], at: usize) -> usize
     if text.len() <= at {
         return length;
     }
-    let mut place = length - 1;
     let mut rest = number;
-    while 9 < rest {
+    for place in (0..length).rev() {
         put_byte(last_digit(rest), text, at, place);
-        place -= 1;
         rest /= 10;
     }
-    put_byte(last_digit(rest), text, at, 0);
     length
 }
 
@@ -50,10 +41,10 @@ pub fn put_decimal(number: u64, text: &mut [u8], at: usize) -> usize
 pub fn put_bytes(bytes: &[u8], text: &mut [u8], at: usize) -> usize
     ensures { Laid bytes.now text.old at result text.new }
 {
-    let mut place = 0;
-    while place < bytes.len() {
-        put_byte(bytes[place], text, at, place);
-        place += 1;
+    if at < text.len() {
+        let room = text.len() - at;
+        let count = bytes.len().min(room);
+        text[at..at + count].copy_from_slice(&bytes[..count]);
     }
     bytes.len()
 }

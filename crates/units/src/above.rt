@@ -1,4 +1,6 @@
-ghost use Rattle.std.specs.Prelude.{◌≡◌, true, length};
+ghost use Rattle.std.specs.Prelude.{◌≡◌, true, not, ◌&&◌, fold};
+ghost use Rattle.std.specs.List.{position_or_len};
+ghost use Rattle.std.specs.Ordering.{partial_lt};
 ghost use Rattle.columns.specs.Column.{col};
 ghost use Rattle.units.specs.Above.{first_above};
 
@@ -14,61 +16,39 @@ pub fn gigajoules_at(figures: &[u32], row: usize) -> u32
     figures[row]
 }
 
-// Whether no row's gigajoules are above the most allowed. All are looked at, and so several at once.
-fn gigajoules_keep(figures: &[u32], most: Gigajoules) -> bool
-    ensures { result ≡ true → length figures.now ≡ first_above most.0 figures.now }
+// Whether no figure is above the most allowed. All are looked at, and so several at once.
+fn keep<T: Copy + PartialOrd>(figures: &[T], most: T) -> bool
+    ensures { result
+        ≡ fold (λ kept figure. kept && not (partial_lt T.partial_cmp most figure)) true figures.now }
 {
-    let mut kept = true;
-    for row in 0..figures.len() {
-        if most.0 < figures[row] {
-            kept = false;
-        }
+    figures
+        .iter()
+        .fold(true, |kept, figure| kept & !(most < *figure))
+}
+
+// The place of the first figure above the most allowed, or the number of figures where none is.
+pub fn first_above<T: Copy + PartialOrd>(figures: &[T], most: T) -> usize
+    ensures { result ≡ position_or_len (partial_lt T.partial_cmp most) figures.now }
+{
+    if keep(figures, most) {
+        return figures.len();
     }
-    kept
+    figures
+        .iter()
+        .position(|figure| most < *figure)
+        .unwrap_or(figures.len())
 }
 
 // The lowest row whose gigajoules are above the most allowed, or the number of rows where none is.
 pub fn first_gigajoules_above(figures: &[u32], most: Gigajoules) -> usize
     ensures { result ≡ first_above most.0 figures.now }
 {
-    if gigajoules_keep(figures, most) {
-        return figures.len();
-    }
-    let mut row = 0;
-    while row < figures.len() {
-        if most.0 < figures[row] {
-            return row;
-        }
-        row += 1;
-    }
-    row
+    first_above(figures, most.0)
 }
 
-// The same two of megajoules.
-fn megajoules_keep(figures: &[u64], most: Megajoules) -> bool
-    ensures { result ≡ true → length figures.now ≡ first_above most.0 figures.now }
-{
-    let mut kept = true;
-    for row in 0..figures.len() {
-        if most.0 < figures[row] {
-            kept = false;
-        }
-    }
-    kept
-}
-
+// The same of megajoules.
 pub fn first_megajoules_above(figures: &[u64], most: Megajoules) -> usize
     ensures { result ≡ first_above most.0 figures.now }
 {
-    if megajoules_keep(figures, most) {
-        return figures.len();
-    }
-    let mut row = 0;
-    while row < figures.len() {
-        if most.0 < figures[row] {
-            return row;
-        }
-        row += 1;
-    }
-    row
+    first_above(figures, most.0)
 }

@@ -1,12 +1,8 @@
--- Four bytes are read at once; else the number is what those before `place` spell, with room for one more while fewer than four are read.
+-- Four bytes are read at once; else the number is what the bytes gone over spell, with room for one more while fewer than four are.
 use mathlib.Core.Path.{◌≡◌}
-use Prim.Native.Nat.{◌-◌, ◌≤◌}
-use lib.ListN.{take, drop}
+use lib.ListN.{take}
 use Rattle.bigendian.specs.Number.{value}
 use Rattle.bigendian.proofs.number_at.Given as goal
 
-abbrev pub invariant-loop-place : goal.invariant-loop-place
-invariant-loop-place l = (l.place ≤ l.count) × (l.number ≡ value (take l.place (drop l.at l.file)))
-
-abbrev pub decreases-loop-place : goal.decreases-loop-place
-decreases-loop-place l = l.count - l.place
+abbrev pub invariant-loop-byte : goal.invariant-loop-byte
+invariant-loop-byte l = l.number ≡ value (take l.byte-index l.part)

@@ -3,7 +3,7 @@ use Rattle.bigendian.proofs.Laying.{number-next, number-all}
 use Rattle.bigendian.proofs.put_number.Goals as goal
 
 pub loop-place-init : goal.loop-place-init
-loop-place-init c = rw c.lesser-place.ensures laying_none
+loop-place-init c = rw c.min-place.ensures laying_none
 
 pub loop-place-preserved : goal.loop-place-preserved
 loop-place-preserved c =

@@ -7,6 +7,3 @@ use Rattle.bigendian.proofs.put_number.Given as goal
 abbrev pub invariant-loop-place : goal.invariant-loop-place
 invariant-loop-place l =
     Laying (bytes (min l.width widest) l.number) l.initial.block l.at (bytes l.place l.rest) l.block l.at
-
-abbrev pub decreases-loop-place : goal.decreases-loop-place
-decreases-loop-place l = l.place

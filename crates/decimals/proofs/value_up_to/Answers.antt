@@ -1,12 +1,12 @@
 use Rattle.decimals.proofs.Spelling.{spelled_none, spelled-more, spelled-all}
 use Rattle.decimals.proofs.value_up_to.Goals as goal
 
-pub loop-place-init : goal.loop-place-init
-loop-place-init c = spelled_none _ _
+pub loop-byte-init : goal.loop-byte-init
+loop-byte-init c = spelled_none _ _
 
-pub loop-place-preserved : goal.loop-place-preserved
-loop-place-preserved c =
-    spelled-more _ _ c.loop-place.invariant c.loop-place-test.true (rw c.digit_of.ensures.0 at c.lesser-number.ensures)
+pub loop-byte-preserved : goal.loop-byte-preserved
+loop-byte-preserved c =
+    spelled-more _ _ c.loop-byte.invariant c.loop-byte-test.true (rw c.saturating_sub-digit.ensures at c.min-number.ensures)
 
 pub returns : goal.returns
-returns c = spelled-all _ _ c.loop-place.invariant c.loop-place-test.false
+returns c = spelled-all _ _ c.loop-byte.invariant c.loop-byte-test.false

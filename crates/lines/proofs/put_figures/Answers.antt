@@ -1,21 +1,18 @@
 use native.Mathlib.Omega.{arith}
-use Rattle.lines.proofs.Lining.{lining_none, figures-none, figures-next, figures-last}
+use Rattle.lines.proofs.Lining.{figures-none, figures-next, figures-last}
 use Rattle.lines.proofs.put_figures.Goals as goal
 
-pub returns-then-figures-eq0 : goal.returns-then-figures-eq0
-returns-then-figures-eq0 c =
-    let figures = c.args.figures.now in
-    (figures-none figures c.if-figures-eq0.true c.put_byte.ensures, omega arith)
+pub returns-in_default : goal.returns-in_default
+returns-in_default c = (figures-none _ c.in_default.ensures.cases c.put_byte.ensures, omega arith)
 
-pub loop-place-init : goal.loop-place-init
-loop-place-init c = (omega arith, omega arith, lining_none)
-
-pub loop-place-preserved : goal.loop-place-preserved
-loop-place-preserved c =
-    let figures = c.args.figures.now in
-    (omega arith, omega arith, figures-next figures _ c.loop-place.invariant.2 (omega arith) c.put_ended-size.ensures.0)
+pub loop-figure-preserved : goal.loop-figure-preserved
+loop-figure-preserved c =
+    let now = c.loop-figure in
+    (omega arith, figures-next _ _ _ c.in-Some.ensures.cases _ now.invariant.1 c.loop-figure-test.true c.put_ended-size.ensures.0)
 
 pub returns : goal.returns
 returns c =
-    let figures = c.args.figures.now in
-    (figures-last figures c.loop-place.place c.loop-place.invariant.2 (omega arith) c.put_ended.ensures.0, omega arith)
+    let now = c.loop-figure in (
+      figures-last _ _ _ c.in-Some.ensures.cases now.figure-index now.invariant.1 (omega arith) c.put_ended.ensures.0,
+      omega (arith, c.in-Some.ensures.cases.1),
+    )

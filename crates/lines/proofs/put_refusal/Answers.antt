@@ -5,6 +5,6 @@ use Rattle.lines.proofs.put_refusal.Goals as goal
 
 pub returns : goal.returns
 returns c = (
-  refusal-laid c.args.refusal _ c.lesser-from.ensures c.put_word-title.ensures c.put_line.ensures.0,
+  refusal-laid c.args.refusal _ c.min-from.ensures c.put_word-title.ensures c.put_line.ensures.0,
   omega (arith, c.put_word-title.ensures.counts, c.put_line.ensures.1),
 )

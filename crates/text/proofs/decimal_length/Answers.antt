@@ -1,13 +1,8 @@
-use native.Mathlib.Omega.{arith}
-use Rattle.text.proofs.Decimals.{length-one, length_more, at_most_twenty}
+-- One digit more than the highest power of ten that the number reaches.
+use Rattle.text.proofs.Decimals.{length-reached}
 use Rattle.text.proofs.decimal_length.Goals as goal
 
-pub overflow_add-length : goal.overflow_add-length
-overflow_add-length c =
-    omega (arith, length_more c.loop-rest.rest c.loop-rest-test.true, at_most_twenty c.args.number (omega arith))
-
-pub loop-rest-preserved : goal.loop-rest-preserved
-loop-rest-preserved c = omega (arith, length_more c.loop-rest.rest c.loop-rest-test.true)
-
 pub returns : goal.returns
-returns c = omega (arith, length-one c.loop-rest.rest c.loop-rest-test.false)
+returns c =
+    length-reached c.args.number _ (rw c.max.ensures at c.ilog10.ensures.power_le)
+    (rw c.max.ensures at c.ilog10.ensures.next_power_gt)

@@ -1,14 +1,14 @@
+-- As many bytes as the block has room for are copied, and from its end on there is none.
 use mathlib.Core.Path.{refl}
-use native.Mathlib.Omega.{arith}
-use Rattle.text.proofs.Laying.{word_none, word_next, word-all}
+use Rattle.text.proofs.Laying.{nothing_laid, word_there}
 use Rattle.text.proofs.put_bytes.Goals as goal
 
-pub loop-place-init : goal.loop-place-init
-loop-place-init c = (omega arith, word_none _ _ _)
+pub returns-then-at-text : goal.returns-then-at-text
+returns-then-at-text c =
+    record {
+      counts = refl;
+      lays = word_there _ _ _ _ c.if-at-text.true c.min-count.ensures c.copy_from_slice.ensures.after;
+    }
 
-pub loop-place-preserved : goal.loop-place-preserved
-loop-place-preserved c =
-    (omega arith, word_next _ _ _ _ c.loop-place.invariant.1 c.loop-place-test.true c.put_byte.ensures)
-
-pub returns : goal.returns
-returns c = record { counts = refl; lays = word-all _ _ _ _ c.loop-place.invariant.1 c.loop-place-test.false }
+pub returns-else-at-text : goal.returns-else-at-text
+returns-else-at-text c = nothing_laid c.if-at-text.false refl
