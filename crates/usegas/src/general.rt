@@ -2,8 +2,8 @@ ghost use Rattle.usegas.specs.General.{GasAnswered};
 ghost use Rattle.usegas.specs.Heater.{HeaterAnswered};
 
 use crate::examine::examine;
-use crate::fill::fill;
-use crate::weight::total_up;
+use crate::schedules::Schedules;
+use crate::share::Sharing;
 use units::{Check, Megajoules, Refusal};
 
 // The place of the Foundation Shipper where no row is its own.
@@ -31,9 +31,11 @@ pub fn share_general(
     match found {
         Check::Refused(refusal) => UseGas::Refused(refusal),
         Check::Accepted => {
-            let net = gas.0 - supplied.0;
-            let total = total_up(foundation, schedules);
-            let given = fill(net, total, foundation, schedules, shares);
+            let schedules = Schedules {
+                foundation,
+                rows: schedules,
+            };
+            let given = Sharing::new(gas.0 - supplied.0, schedules).fill(shares);
             UseGas::Shared(Megajoules(given))
         }
     }

@@ -1,8 +1,8 @@
 use native.Mathlib.Omega.{arith}
-use Rattle.columns.proofs.Sums.{adding_none, adding_next, adding_all, adding_bound}
+use Rattle.columns.proofs.Sums.{adding_none, adding_next, adding_bound}
 use Rattle.units.specs.Bound.{most_gigajoules}
 use Rattle.usegas.proofs.Shares.{weight-small, weighed_small}
-use Rattle.usegas.proofs.weight.total_up.Goals as goal
+use Rattle.usegas.proofs.schedules.Schedules.total.Goals as goal
 
 pub loop-row-init : goal.loop-row-init
 loop-row-init c = adding_none _ _
@@ -18,6 +18,3 @@ overflow_add-total c =
 
 pub loop-row-preserved : goal.loop-row-preserved
 loop-row-preserved c = adding_next _ _ c.loop-row.invariant c.loop-row-test.true c.weight_at-total.ensures
-
-pub returns : goal.returns
-returns c = adding_all _ _ c.loop-row.invariant c.loop-row-test.false
