@@ -2,7 +2,6 @@
 #![tactic(auto)]
 
 mod examine;
-mod fill;
 mod share;
 mod stranded;
 mod totals;
@@ -32,8 +31,7 @@ pub fn share_hour(
     match found {
         Check::Refused(refusal) => Hour::Refused(refusal),
         Check::Accepted => {
-            let totals = totals::total_up(entitlements, mdqs);
-            let given = fill::fill(capacity.0, totals, entitlements, mdqs, shares);
+            let given = share::Sharing::new(capacity.0, entitlements, mdqs).fill(shares);
             Hour::Shared(Megajoules(given))
         }
     }
