@@ -6,12 +6,14 @@ mod fill;
 mod guess;
 mod level;
 mod pass;
+mod rows;
 mod share;
 mod unchanged;
 mod whole;
 
 ghost use Rattle.rounds.specs.Answer.{RoundAnswered};
 
+use rows::Sharers;
 use units::{Check, Gigajoules, Refusal};
 
 // A round's level, and what its rows are given together.
@@ -41,8 +43,9 @@ pub fn share_round(
     match found {
         Check::Refused(refusal) => Round::Refused(refusal),
         Check::Accepted => {
-            let level = level::level_of(capacity.0, weights, needs);
-            let total = fill::fill(weights, needs, level, shares);
+            let sharers = Sharers { weights, needs };
+            let level = sharers.level_of(capacity.0);
+            let total = sharers.fill(level, shares);
             Round::Shared(Given {
                 level,
                 total: Gigajoules(total),

@@ -10,11 +10,7 @@ pub fn share_at(weight: u32, need: u32, level: u64) -> u32
     ensures { result ≡ share weight need level }
 {
     let part = weight as u64 * level / 1_000_000;
-    if part < need as u64 {
-        part as u32
-    } else {
-        need
-    }
+    part.min(need as u64) as u32
 }
 
 // What the top gives a row: all that it needs, where it has a weight.

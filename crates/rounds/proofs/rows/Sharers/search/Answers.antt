@@ -1,9 +1,9 @@
 use native.Mathlib.Omega.{arith}
 use Rattle.rounds.proofs.Searches.{bracket_start, bracket_up, bracket_down, bracket_level}
-use Rattle.rounds.proofs.level.search.Goals as goal
+use Rattle.rounds.proofs.rows.Sharers.search.Goals as goal
 
 pub loop-low-init : goal.loop-low-init
-loop-low-init c = (bracket_start _ _ _ _ c.requires.capacity_bound, omega arith)
+loop-low-init c = (bracket_start _ _ _ _ c.requires, omega arith)
 
 pub loop-low-preserved-then-pass-capacity : goal.loop-low-preserved-then-pass-capacity
 loop-low-preserved-then-pass-capacity c =

@@ -1,6 +1,6 @@
 use native.Mathlib.Omega.{arith}
 use Rattle.rounds.proofs.Unchanging.{lasting_none, lasting_next, lasting_all}
-use Rattle.rounds.proofs.unchanged.last_unchanged.Goals as goal
+use Rattle.rounds.proofs.rows.Sharers.last_unchanged.Goals as goal
 
 pub loop-row-init : goal.loop-row-init
 loop-row-init c = lasting_none _ _ _ _ _ (omega arith)
@@ -8,7 +8,7 @@ loop-row-init c = lasting_none _ _ _ _ _ (omega arith)
 pub last_of_row-last-requires : goal.last_of_row-last-requires
 last_of_row-last-requires c =
     let now = c.loop-row in
-    (c.requires.0.weights now.row c.loop-row-test.true, now.invariant.from, omega (arith, now.invariant.below, c.requires.2))
+    (c.args.self.now.rows.weights now.row c.loop-row-test.true, now.invariant.from, omega (arith, now.invariant.below, c.requires.1))
 
 pub loop-row-preserved : goal.loop-row-preserved
 loop-row-preserved c =
