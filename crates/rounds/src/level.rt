@@ -18,10 +18,10 @@ impl Sharers<'_> {
         if whole.most <= capacity {
             return TOP;
         }
-        self.search(capacity, whole.weight)
+        self.search(capacity, whole.weights)
     }
 
-    // A level that fits and one that does not are brought together, by guesses first.
+    // A level that fits and one that does not are brought together, by guesses first. They stay two numbers, for each turn moves one.
     fn search(&self, capacity: u32, weight: u32) -> u64
         requires { capacity < total (length self.now.weights.now) (col self.now.weights.now) (col self.now.needs.now) top }
         ensures { result ≡ level (length self.now.weights.now) (col self.now.weights.now) (col self.now.needs.now) capacity }

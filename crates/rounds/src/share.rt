@@ -1,7 +1,8 @@
 ghost use Rattle.std.specs.Prelude.{◌≡◌, ◌≤◌};
 ghost use Rattle.sharing.specs.Round.{share, top};
 
-// The highest level.
+// The highest level. Levels stay plain numbers: they are halved, compared and stepped past the top, and a type of their own would be
+// opened at each step.
 pub const TOP: u64 = 1_000_000_000_000;
 
 // What a level gives a row.

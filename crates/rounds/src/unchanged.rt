@@ -15,8 +15,8 @@ impl Sharers<'_> {
             ≤ total (length self.now.weights.now) (col self.now.weights.now) (col self.now.needs.now) low) }
     {
         let mut last = high - 1;
-        for row in 0..self.weights.len() {
-            last = last_of_row(self.weights[row], self.needs[row], low, last);
+        for (weight, need) in self.weights.iter().zip(self.needs) {
+            last = last_of_row(*weight, *need, low, last);
         }
         last
     }

@@ -9,7 +9,7 @@ use crate::share::share_at_top;
 #[derive(Clone, Copy)]
 pub struct Whole {
     pub most: u32,
-    pub weight: u32,
+    pub weights: u32,
 }
 
 impl Sharers<'_> {
@@ -18,11 +18,11 @@ impl Sharers<'_> {
         ensures { result.most ≡ total (length self.now.weights.now) (col self.now.weights.now) (col self.now.needs.now) top }
     {
         let mut most: u32 = 0;
-        let mut weight: u32 = 0;
-        for row in 0..self.weights.len() {
-            most += share_at_top(self.weights[row], self.needs[row]);
-            weight += self.weights[row];
+        let mut weights: u32 = 0;
+        for (weight, need) in self.weights.iter().zip(self.needs) {
+            most += share_at_top(*weight, *need);
+            weights += *weight;
         }
-        Whole { most, weight }
+        Whole { most, weights }
     }
 }
