@@ -1,3 +1,4 @@
+pub mod Adding
 pub mod Shares
 pub mod Cases
 pub mod Stranding

@@ -7,26 +7,22 @@ use borrow.Author.Tests.{lt-ltb, le-ltb}
 use Rattle.columns.specs.Sum.{sum}
 use Rattle.columns.proofs.Sums.{sum_add, sum_same, sum_cong}
 use Rattle.sharing.specs.Part.{part}
-use Rattle.sharing.proofs.Parts.{Spent, part_none, parts_spent}
+use Rattle.sharing.proofs.Parts.{Spent, parts_spent}
 use Rattle.pointshares.specs.Share.{share}
 
 module _ (n : ℕ) (re mdq : ℕ → ℕ) (h : ℕ) where
-  pub share_alone : n < 2 → (i : ℕ) → share n re mdq h i ≡ h
+  share_alone : n < 2 → (i : ℕ) → share n re mdq h i ≡ h
   unfolding share
   share_alone few i = rw (lt-ltb n 2 few)
 
   module _ (two : 2 ≤ n) where
-    pub share-over : h < sum n re → (i : ℕ) → share n re mdq h i ≡ part n re h i
+    share-over : h < sum n re → (i : ℕ) → share n re mdq h i ≡ part n re h i
     unfolding share
     share-over over i = rw (le-ltb n 2 two, lt-ltb h (sum n re) over)
 
-    pub share-beyond : sum n re ≤ h → (i : ℕ) → share n re mdq h i ≡ re i + part n mdq (h - sum n re) i
+    share-beyond : sum n re ≤ h → (i : ℕ) → share n re mdq h i ≡ re i + part n mdq (h - sum n re) i
     unfolding share
     share-beyond within i = rw (le-ltb n 2 two, le-ltb h (sum n re) within)
-
-    -- where nothing is left beyond the entitlements, a share is the entitlement
-    pub share_even : sum n re ≤ h → h - sum n re ≡ 0 → (i : ℕ) → share n re mdq h i ≡ re i
-    share_even within none i = omega (arith, share-beyond within i, part_none n mdq (h - sum n re) none i)
 
     spent-over : h < sum n re → Spent n h (sum n (share n re mdq h))
     spent-over over =

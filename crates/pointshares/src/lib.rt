@@ -2,7 +2,6 @@
 #![tactic(auto)]
 
 mod examine;
-mod fill;
 mod share;
 mod stranded;
 mod totals;
@@ -22,7 +21,6 @@ pub fn share_hour(
         shares.old result shares.new }
 {
     examine::examine(capacity.0, entitlements, mdqs, shares.len())?;
-    let totals = totals::total_up(entitlements, mdqs);
-    let given = fill::fill(capacity.0, totals, entitlements, mdqs, shares);
+    let given = share::Sharing::new(capacity.0, entitlements, mdqs).fill(shares);
     Ok(Megajoules(given))
 }

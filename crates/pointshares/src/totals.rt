@@ -8,17 +8,14 @@ pub struct Totals {
     pub mdq: u32,
 }
 
-pub fn total_up(entitlements: &[u64], mdqs: &[u32]) -> Totals
-    requires { Rows entitlements.now mdqs.now }
-    ensures { result ≡ totals entitlements.now mdqs.now }
-{
-    let mut entitlement: u64 = 0;
-    let mut mdq: u32 = 0;
-    let mut row = 0;
-    while row < entitlements.len() {
-        entitlement += entitlements[row];
-        mdq += mdqs[row];
-        row += 1;
+impl Totals {
+    pub fn of(entitlements: &[u64], mdqs: &[u32]) -> Self
+        requires { Rows entitlements.now mdqs.now }
+        ensures { result ≡ totals entitlements.now mdqs.now }
+    {
+        Self {
+            entitlement: entitlements.iter().sum(),
+            mdq: mdqs.iter().sum(),
+        }
     }
-    Totals { entitlement, mdq }
 }

@@ -1,3 +1,4 @@
+pub mod Turns
 pub mod Unchanging
 pub mod Searches
 pub mod Accepting

@@ -1,5 +1,5 @@
 // Guesses of a level. The search tests each level that it takes, so a guess decides how soon it ends and never what it finds.
-ghost use Rattle.std.specs.Prelude.{◌+◌, ◌≤◌, ◌<◌};
+ghost use Rattle.std.specs.Prelude.{◌+◌, ◌≤◌, ◌<◌, ◌↔◌, IsTrue};
 ghost use Rattle.sharing.specs.Round.{top};
 
 use crate::pass::Pass;
@@ -23,10 +23,7 @@ pub fn step(gigajoules: u32, weight: u32) -> u64
 pub fn raised(capacity: u32, given: u32, level: u64, pass: Pass) -> u64
     requires { (level ≤ top) × (pass.total ≤ capacity) }
 {
-    if pass.total == capacity {
-        return TOP;
-    }
-    if pass.total == given {
+    if pass.total == capacity || pass.total == given {
         return TOP;
     }
     level + step(capacity - pass.total, pass.short)
@@ -36,19 +33,14 @@ pub fn raised(capacity: u32, given: u32, level: u64, pass: Pass) -> u64
 pub fn lowered(capacity: u32, level: u64, pass: Pass) -> u64
     requires { capacity < pass.total }
 {
-    let back = step(pass.total - capacity - 1, pass.short);
-    if level < back {
-        return 0;
-    }
-    level - back
+    level.saturating_sub(step(pass.total - capacity - 1, pass.short))
 }
 
 // Whether a guess can be taken.
-pub fn is_between(low: u64, guess: u64, high: u64) -> bool {
-    if low < guess {
-        return guess < high;
-    }
-    false
+pub fn is_between(low: u64, guess: u64, high: u64) -> bool
+    ensures { IsTrue result ↔ (low < guess) × (guess < high) }
+{
+    low < guess && guess < high
 }
 
 // A level between the two: the guess, or the next to low where it is not between them; after too many passes the middle.
@@ -59,10 +51,7 @@ pub fn between(low: u64, guess: u64, high: u64, passes: u64) -> u64
     if GUESSES <= passes {
         return low + (high - low) / 2;
     }
-    if guess <= low {
-        return low + 1;
-    }
-    if high <= guess {
+    if !is_between(low, guess, high) {
         return low + 1;
     }
     guess

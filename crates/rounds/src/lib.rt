@@ -6,12 +6,14 @@ mod fill;
 mod guess;
 mod level;
 mod pass;
+mod rows;
 mod share;
 mod unchanged;
 mod whole;
 
 ghost use Rattle.rounds.specs.Answer.{RoundAnswered};
 
+use rows::Sharers;
 use units::{Gigajoules, Refusal};
 
 // A round's level, and what its rows are given together.
@@ -32,7 +34,8 @@ pub fn share_round(
         shares.old result shares.new }
 {
     examine::examine(capacity.0, weights, needs, shares.len())?;
-    let level = level::level_of(capacity.0, weights, needs);
-    let total = Gigajoules(fill::fill(weights, needs, level, shares));
+    let sharers = Sharers { weights, needs };
+    let level = sharers.level_of(capacity.0);
+    let total = Gigajoules(sharers.fill(level, shares));
     Ok(Given { level, total })
 }

@@ -1,8 +1,8 @@
 ghost use Rattle.std.specs.Prelude.{◌≡◌, ◌≤◌, length};
 ghost use Rattle.columns.specs.Column.{col};
 ghost use Rattle.sharing.specs.Round.{top, total};
-ghost use Rattle.rounds.specs.Private.{Rows};
 
+use crate::rows::Sharers;
 use crate::share::share_at;
 
 // One pass over the rows at a level: what they are given together, and the weights of the rows that stay short.
@@ -12,22 +12,20 @@ pub struct Pass {
     pub short: u32,
 }
 
-pub fn pass_at(weights: &[u32], needs: &[u32], level: u64) -> Pass
-    requires { Rows weights.now needs.now × (level ≤ top) }
-    ensures { result.total ≡ total (length weights.now) (col weights.now) (col needs.now) level }
-{
-    let mut total: u32 = 0;
-    let mut short: u32 = 0;
-    let mut row = 0;
-    while row < weights.len() {
-        let weight = weights[row];
-        let need = needs[row];
-        let share = share_at(weight, need, level);
-        total += share;
-        if share < need {
-            short += weight;
+impl Sharers<'_> {
+    pub fn pass_at(&self, level: u64) -> Pass
+        requires { level ≤ top }
+        ensures { result.total ≡ total (length self.now.weights.now) (col self.now.weights.now) (col self.now.needs.now) level }
+    {
+        let mut total: u32 = 0;
+        let mut short: u32 = 0;
+        for (weight, need) in self.weights.iter().zip(self.needs) {
+            let share = share_at(*weight, *need, level);
+            total += share;
+            if share < *need {
+                short += *weight;
+            }
         }
-        row += 1;
+        Pass { total, short }
     }
-    Pass { total, short }
 }

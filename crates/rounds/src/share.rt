@@ -1,7 +1,8 @@
 ghost use Rattle.std.specs.Prelude.{◌≡◌, ◌≤◌};
 ghost use Rattle.sharing.specs.Round.{share, top};
 
-// The highest level.
+// The highest level. Levels stay plain numbers: they are halved, compared and stepped past the top, and a type of their own would be
+// opened at each step.
 pub const TOP: u64 = 1_000_000_000_000;
 
 // What a level gives a row.
@@ -10,11 +11,7 @@ pub fn share_at(weight: u32, need: u32, level: u64) -> u32
     ensures { result ≡ share weight need level }
 {
     let part = weight as u64 * level / 1_000_000;
-    if part < need as u64 {
-        part as u32
-    } else {
-        need
-    }
+    part.min(need as u64) as u32
 }
 
 // What the top gives a row: all that it needs, where it has a weight.

@@ -2,24 +2,24 @@
 ghost use Rattle.std.specs.Prelude.{◌≤◌, ◌<◌, length};
 ghost use Rattle.columns.specs.Column.{col};
 ghost use Rattle.sharing.specs.Round.{share, top, total};
-ghost use Rattle.rounds.specs.Private.{Rows};
 
+use crate::rows::Sharers;
 use crate::share::share_at;
 
-// The last level below `high` at which no row is given more than at `low`.
-pub fn last_unchanged(weights: &[u32], needs: &[u32], low: u64, high: u64) -> u64
-    requires { Rows weights.now needs.now × (low < high) × (high ≤ top) }
-    ensures { (low ≤ result) × (result < high)
-        × (total (length weights.now) (col weights.now) (col needs.now) result
-        ≤ total (length weights.now) (col weights.now) (col needs.now) low) }
-{
-    let mut last = high - 1;
-    let mut row = 0;
-    while row < weights.len() {
-        last = last_of_row(weights[row], needs[row], low, last);
-        row += 1;
+impl Sharers<'_> {
+    // The last level below `high` at which no row is given more than at `low`.
+    pub fn last_unchanged(&self, low: u64, high: u64) -> u64
+        requires { (low < high) × (high ≤ top) }
+        ensures { (low ≤ result) × (result < high)
+            × (total (length self.now.weights.now) (col self.now.weights.now) (col self.now.needs.now) result
+            ≤ total (length self.now.weights.now) (col self.now.weights.now) (col self.now.needs.now) low) }
+    {
+        let mut last = high - 1;
+        for (weight, need) in self.weights.iter().zip(self.needs) {
+            last = last_of_row(*weight, *need, low, last);
+        }
+        last
     }
-    last
 }
 
 // The same of one row, up to `last`.

@@ -1,6 +1,5 @@
 pub mod Shares
 pub mod Scheduling
-pub mod Signs
 pub mod Accepting
 pub mod Determined
 pub mod Decided

@@ -1,7 +1,7 @@
 -- The weights and the shares of net gas.
-use mathlib.Core.Path.{◌≡◌, refl, ap, sym}
+use mathlib.Core.Path.{◌≡◌, refl}
 use mathlib.Core.List.{List}
-use Prim.Native.Nat.{ℕ, ◌*◌, ◌/◌, ◌≤◌, ◌<◌}
+use Prim.Native.Nat.{ℕ, ◌≤◌, ◌<◌}
 use native.Mathlib.Nat.{mul-zero, zero-div}
 use native.Mathlib.Decide.{ℕ_discrete}
 use native.Mathlib.Omega.{arith}
@@ -9,7 +9,7 @@ use borrow.Author.Tests.{eq-eqb, ne_eqb}
 use lib.ListN.{length}
 use Rattle.columns.specs.Column.{col}
 use Rattle.columns.proofs.Sums.{row_le_sum}
-use Rattle.sharing.proofs.Parts.{part_none, parts_spent}
+use Rattle.sharing.proofs.Parts.{parts_spent}
 use Rattle.units.specs.Bound.{most_system_use, most_gigajoules}
 use Rattle.usegas.specs.Share.{weights, gas_shares}
 use Rattle.usegas.specs.Private.{Rows, Shareable}
@@ -38,14 +38,7 @@ module _ (foundation : ℕ) (schedules : List ℕ) where
   pub foundation-nothing : (net : ℕ) → gas_shares foundation schedules net foundation ≡ 0
   foundation-nothing net = rw (weight-excepted foundation refl, mul-zero, zero-div)
 
--- what a leaf needs of a share, with the total that it is handed
 module _ {net t foundation : ℕ} {schedules : List ℕ} (S : Shareable net t foundation schedules) where
-  pub nothing-net : net ≡ 0 → (i : ℕ) → 0 ≡ gas_shares foundation schedules net i
-  nothing-net none i = sym (part_none (length schedules) (weights foundation schedules) net none i)
-
-  pub by_schedule : (i : ℕ) → net * weights foundation schedules i / t ≡ gas_shares foundation schedules net i
-  by_schedule i = ap (λ t. net * weights foundation schedules i / t) S.added
-
   -- no share is above the net gas, nor its bound
   pub share-most : (i : ℕ) → i < length schedules → gas_shares foundation schedules net i ≤ most_system_use
   share-most i l =

@@ -3,17 +3,15 @@ ghost use Rattle.usegas.specs.Share.{beyond};
 ghost use Rattle.usegas.specs.General.{general_check};
 
 use crate::general::NO_FOUNDATION;
-use crate::weight::is_unscheduled;
+use crate::schedules::is_unscheduled;
 use units::{MOST_GIGAJOULES, MOST_ROWS, MOST_SYSTEM_USE, Refusal, gigajoules_within, keep};
 
 // Whether the Foundation Shipper's place is no row and not the one for none.
+#[tactic(auto, unfolding(crate::specs::Share::beyond))]
 fn is_beyond(foundation: usize, rows: usize) -> bool
     ensures { result ≡ beyond foundation rows }
 {
-    if foundation < rows {
-        return false;
-    }
-    foundation != NO_FOUNDATION
+    rows <= foundation && foundation != NO_FOUNDATION
 }
 
 // The first of the tests that the input fails, with room for so many shares.

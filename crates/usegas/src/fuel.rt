@@ -7,29 +7,18 @@ use units::{Gigajoules, MOST_GIGAJOULES, MOST_IMBALANCE, Megajoules, Refusal, gr
 #[derive(Clone, Copy)]
 pub struct Imbalance(pub i64);
 
-// An imbalance is between these.
-const MOST: i64 = MOST_IMBALANCE.0 as i64;
-
-const LEAST: i64 = -MOST;
-
 // Whether an imbalance is within its bound either way.
 fn is_bounded(imbalance: Imbalance) -> bool
     ensures { result ≡ bounded_size imbalance.0 }
 {
-    if imbalance.0 < LEAST {
-        return false;
-    }
-    imbalance.0 <= MOST
+    imbalance.0.unsigned_abs() <= MOST_IMBALANCE.0
 }
 
 // A positive imbalance; one below zero counts as none.
 fn positive(imbalance: Imbalance) -> Megajoules
     ensures { result.0 ≡ positive imbalance.0 }
 {
-    if imbalance.0 < 0 {
-        return Megajoules(0);
-    }
-    Megajoules(imbalance.0 as u64)
+    Megajoules(imbalance.0.max(0).unsigned_abs())
 }
 
 // A hundredth of what an imbalance is above eight hundredths of the MDQ.
@@ -37,10 +26,7 @@ fn fuel(imbalance: Megajoules, mdq: Gigajoules) -> Megajoules
     ensures { result ≡ fuel imbalance mdq }
 {
     let allowed = units::in_megajoules(mdq).0 * 80 / 1000;
-    if imbalance.0 <= allowed {
-        return Megajoules(0);
-    }
-    Megajoules((imbalance.0 - allowed) / 100)
+    Megajoules(imbalance.0.saturating_sub(allowed) / 100)
 }
 
 // The first of the tests that the input fails.

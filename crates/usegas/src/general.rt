@@ -2,8 +2,8 @@ ghost use Rattle.usegas.specs.General.{GasAnswered};
 ghost use Rattle.usegas.specs.Heater.{HeaterAnswered};
 
 use crate::examine::examine;
-use crate::fill::fill;
-use crate::weight::total_up;
+use crate::schedules::Schedules;
+use crate::share::Sharing;
 use units::{Megajoules, Refusal};
 
 // The place of the Foundation Shipper where no row is its own.
@@ -21,9 +21,11 @@ pub fn share_general(
     ensures { GasAnswered gas.0 supplied.0 foundation schedules.now shares.old result shares.new }
 {
     examine(gas.0, supplied.0, foundation, schedules, shares.len())?;
-    let net = gas.0 - supplied.0;
-    let total = total_up(foundation, schedules);
-    let given = fill(net, total, foundation, schedules, shares);
+    let schedules = Schedules {
+        foundation,
+        rows: schedules,
+    };
+    let given = Sharing::new(gas.0 - supplied.0, schedules).fill(shares);
     Ok(Megajoules(given))
 }
 

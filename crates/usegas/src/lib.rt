@@ -2,11 +2,10 @@
 #![tactic(auto)]
 
 mod examine;
-mod fill;
 mod fuel;
 mod general;
+mod schedules;
 mod share;
-mod weight;
 
 pub use fuel::{Imbalance, imbalance_fuel};
 pub use general::{NO_FOUNDATION, share_general, share_heater};

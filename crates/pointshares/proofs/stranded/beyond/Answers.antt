@@ -1,17 +1,15 @@
-use native.Mathlib.Nat.{le_antisymm}
-use native.Mathlib.Omega.{arith}
-use Rattle.columns.specs.Column.{col}
-use Rattle.columns.proofs.Sums.{sum-none, sum-next}
+-- Taking the entitlements away one by one takes their total away.
+use mathlib.Core.Path.{◌∙◌}
+use Prim.Native.Nat.{◌-◌}
+use Rattle.std.proofs.Common.{rules, tests}
+use Rattle.std.proofs.lemmas.Iterator.{YieldsList-from_slice}
+use Rattle.std.proofs.lemmas.Iterator.Consumers.{fold_from_yields_List}
+use Rattle.pointshares.proofs.Adding.{total_taken}
 use Rattle.pointshares.proofs.stranded.beyond.Goals as goal
-
-pub loop-row-init : goal.loop-row-init
-loop-row-init c = (omega arith, omega (arith, sum-none (col c.args.entitlements.now)))
-
-pub loop-row-preserved : goal.loop-row-preserved
-loop-row-preserved c =
-    (omega arith, omega (arith, sum-next c.loop-row.row (col c.args.entitlements.now)))
 
 pub returns : goal.returns
 returns c =
-    let inv = c.loop-row.invariant in
-    rw (← le_antisymm inv.0 c.loop-row-test.false) inv.1
+    let entitlements = c.args.entitlements.now in
+    fold_from_yields_List _ (λ left x. left - x) _ _ c.fold.ensures.ran (YieldsList-from_slice entitlements cc)
+    (λ a x b q k. search (rules, tests))
+    ∙ total_taken c.args.capacity entitlements
