@@ -12,14 +12,7 @@ fn all_under(numbers: &[usize], many: usize, one: usize, other: usize) -> bool
     requires { (many ≤ 68) × (one < 2 ^ 41) × (other < 2 ^ 41) }
     ensures { result ≡ all_under (col numbers.now) many one other }
 {
-    let mut place = 0;
-    while place < many {
-        if number_of(numbers, other + place) < number_of(numbers, one + place) {
-            return false;
-        }
-        place += 1;
-    }
-    true
+    (0..many).all(|place| number_of(numbers, one + place) <= number_of(numbers, other + place))
 }
 
 // Whether a row has the first name of the row at a place, and caps its numbers.
@@ -27,11 +20,9 @@ fn caps(counts: Counts, numbers: &[usize], tag: Tag, at: usize, row: u32) -> boo
     requires { at < 2 ^ 40 }
     ensures { result ≡ caps counts (col numbers.now) tag at row }
 {
-    let names = names_of(tag);
-    let name = names[0];
-    let named = name.tag;
-    let key = form_of(named).key;
-    let start = row_place(counts, named, row);
+    let name = names_of(tag)[0];
+    let key = form_of(name.tag).key;
+    let start = row_place(counts, name.tag, row);
     if first_difference(numbers, key, start, at + name.place) < key {
         return false;
     }
@@ -44,19 +35,9 @@ pub fn is_capped(counts: Counts, numbers: &[usize], tag: Tag, at: usize) -> bool
     requires { at < 2 ^ 40 }
     ensures { result ≡ capped counts (col numbers.now) tag at }
 {
-    let names = names_of(tag);
-    let name = names[0];
-    let named = name.tag;
-    if !lists(counts, numbers, named, at + name.place) {
+    let name = names_of(tag)[0];
+    if !lists(counts, numbers, name.tag, at + name.place) {
         return true;
     }
-    let rows = count_of(counts, named);
-    let mut row = 0;
-    while row < rows {
-        if caps(counts, numbers, tag, at, row) {
-            return true;
-        }
-        row += 1;
-    }
-    false
+    (0..count_of(counts, name.tag)).any(|row| caps(counts, numbers, tag, at, row))
 }

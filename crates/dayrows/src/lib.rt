@@ -12,11 +12,10 @@ ghost use Rattle.std.specs.Prelude.{◌≡◌, ◌^◌, ◌<◌};
 ghost use Rattle.columns.specs.Column.{col};
 ghost use Rattle.dayrows.specs.Test.{of_source, names_known, passes, fault, first_failing};
 
-use crate::bounds::is_bounded;
 use crate::caps::is_capped;
 use crate::keys::{is_named, rises};
 use crate::mdqs::is_starved;
-pub use bounds::number_of;
+pub use bounds::{is_bounded, is_within, number_of};
 use dayformat::{Counts, Tag, count_of, form_of, row_place};
 pub use field::breaks;
 pub use mdqs::is_idle;
@@ -60,10 +59,7 @@ fn keeps_bounds(source: Source, counts: Counts, numbers: &[usize], tag: Tag, row
         return false;
     }
     let at = row_place(counts, tag, row);
-    if is_bounded(numbers, tag, at) {
-        return is_of_source(source, counts, numbers, tag, at);
-    }
-    false
+    is_bounded(numbers, tag, at) && is_of_source(source, counts, numbers, tag, at)
 }
 
 fn is_of_source(source: Source, counts: Counts, numbers: &[usize], tag: Tag, at: usize) -> bool
@@ -80,10 +76,8 @@ fn is_of_source(source: Source, counts: Counts, numbers: &[usize], tag: Tag, at:
 fn keeps_key(source: Source, counts: Counts, numbers: &[usize], tag: Tag, row: u32) -> bool
     ensures { result ≡ passes Test.Key source counts (col numbers.now) tag row }
 {
-    if rises(counts, numbers, tag, row) {
-        return names_are_known(source, counts, numbers, tag, row_place(counts, tag, row));
-    }
-    false
+    rises(counts, numbers, tag, row)
+        && names_are_known(source, counts, numbers, tag, row_place(counts, tag, row))
 }
 
 fn names_are_known(source: Source, counts: Counts, numbers: &[usize], tag: Tag, at: usize) -> bool
@@ -119,12 +113,7 @@ pub fn first_failing_row(test: Test, counts: Counts, numbers: &[usize], tag: Tag
     ensures { result ≡ first_failing test counts (col numbers.now) tag }
 {
     let rows = count_of(counts, tag);
-    let mut row = 0;
-    while row < rows {
-        if !row_passes(test, counts, numbers, tag, row) {
-            return row;
-        }
-        row += 1;
-    }
-    row
+    (0..rows)
+        .find(|row| !row_passes(test, counts, numbers, tag, *row))
+        .unwrap_or(rows)
 }

@@ -5,16 +5,13 @@ ghost use Rattle.daytable.specs.Acceptance.{idle};
 ghost use Rattle.dayrows.specs.Test.{starved};
 
 use crate::bounds::number_of;
-use dayformat::{MDQS, Tag, mdqs_of};
+use dayformat::{Tag, mdqs_of};
 
 // A schedule above zero, and its MDQ zero.
 pub fn is_idle(mdq: usize, schedule: usize) -> bool
     ensures { result ≡ idle mdq schedule }
 {
-    if mdq == 0 {
-        return 0 < schedule;
-    }
-    false
+    mdq == 0 && 0 < schedule
 }
 
 // Whether the row that begins at a place has a schedule without its MDQ.
@@ -22,15 +19,8 @@ pub fn is_starved(numbers: &[usize], tag: Tag, at: usize) -> bool
     requires { at < 2 ^ 40 }
     ensures { result ≡ starved (col numbers.now) tag at }
 {
-    let mdqs = mdqs_of(tag);
-    let mut next = 0;
-    while next < MDQS {
-        let pair = mdqs[next];
+    mdqs_of(tag).iter().any(|pair| {
         let mdq = number_of(numbers, at + pair.mdq);
-        if is_idle(mdq, number_of(numbers, at + pair.schedule)) {
-            return true;
-        }
-        next += 1;
-    }
-    false
+        is_idle(mdq, number_of(numbers, at + pair.schedule))
+    })
 }

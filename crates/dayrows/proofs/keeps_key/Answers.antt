@@ -7,6 +7,6 @@ unfolding passes
 returns-then-rises c =
     rw (← c.rises.ensures, c.if-rises.true, ← c.row_place.ensures.0) c.names_are_known.ensures
 
-pub returns : goal.returns
+pub returns-else-rises : goal.returns-else-rises
 unfolding passes
-returns c = rw (← c.rises.ensures, c.if-rises.false)
+returns-else-rises c = rw (← c.rises.ensures, c.if-rises.false)

@@ -12,11 +12,11 @@ use Rattle.dayrows.proofs.caps.caps.Goals as goal
 
 pub overflow_add-at : goal.overflow_add-at
 overflow_add-at c =
-    rw (first_of c.args.tag c.names_of-names.ensures (0 is_a Head)) (omega (arith, (cap-inside c.args.tag).name, c.requires))
+    rw (first_of c.args.tag c.names_of.ensures (0 is_a Head)) (omega (arith, (cap-inside c.args.tag).name, c.requires))
 
 pub first_difference-requires : goal.first_difference-requires
 first_difference-requires c =
-    let short = small (get_or c.names_of-names.result 0 (0 is_a Head)).tag in
+    let short = small (get_or c.names_of.result 0 (0 is_a Head)).tag in
     omega (
       arith,
       ap (λ form. form.key) c.form_of-key.ensures,
@@ -24,7 +24,7 @@ first_difference-requires c =
       short.columns,
       c.row_place-start.ensures.1,
       (cap-inside c.args.tag).name,
-      ap (λ name. name.place) (first_of c.args.tag c.names_of-names.ensures (0 is_a Head)),
+      ap (λ name. name.place) (first_of c.args.tag c.names_of.ensures (0 is_a Head)),
       c.requires,
     )
 
@@ -32,7 +32,7 @@ pub returns-then-first_difference-key : goal.returns-then-first_difference-key
 unfolding caps
 returns-then-first_difference-key c =
     rw (
-      ← first_of c.args.tag c.names_of-names.ensures (0 is_a Head),
+      ← first_of c.args.tag c.names_of.ensures (0 is_a Head),
       ← ap (λ form. form.key) c.form_of-key.ensures,
       ← c.row_place-start.ensures.0,
       ← c.first_difference.ensures.0,
@@ -75,7 +75,7 @@ pub returns : goal.returns
 unfolding caps
 returns c =
     rw (
-      ← first_of c.args.tag c.names_of-names.ensures (0 is_a Head),
+      ← first_of c.args.tag c.names_of.ensures (0 is_a Head),
       ← ap (λ form. form.key) c.form_of-key.ensures,
       ← c.row_place-start.ensures.0,
       ← c.first_difference.ensures.0,
