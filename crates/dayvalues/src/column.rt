@@ -43,14 +43,9 @@ fn first_beyond(counts: Counts, numbers: &[usize], place: u32) -> u32
     ensures { result ≡ first_beyond counts (col numbers.now) place }
 {
     let rows = counts.shippers;
-    let mut row = 0;
-    while row < rows {
-        if is_beyond(counts, numbers, Tag::Shipper, row, place) {
-            return row;
-        }
-        row += 1;
-    }
-    row
+    (0..rows)
+        .find(|row| is_beyond(counts, numbers, Tag::Shipper, *row, place))
+        .unwrap_or(rows)
 }
 
 // The first test that a column fails, with room for so many rows. The rows are looked at where there are few.
