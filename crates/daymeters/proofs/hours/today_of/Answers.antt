@@ -8,4 +8,4 @@ returns-in-Refused c = zeros-refused c.check_row-found.ensures _ _ c.in-Refused.
 pub returns-in-Accepted : goal.returns-in-Accepted
 returns-in-Accepted c =
     figures-accepted c.check_row-found.ensures _ _ c.in-Accepted.is
-    (rw (c.side_from-delivered.ensures, c.side_from-received.ensures))
+    (rw (c.hours_from-delivered.ensures, c.hours_from-received.ensures))

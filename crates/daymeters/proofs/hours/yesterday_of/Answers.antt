@@ -7,4 +7,4 @@ returns-in-Refused c = zeros-refused c.check_row-found.ensures _ _ c.in-Refused.
 
 pub returns-in-Accepted : goal.returns-in-Accepted
 returns-in-Accepted c =
-    figures-accepted c.check_row-found.ensures _ _ c.in-Accepted.is c.yesterday_from.ensures
+    figures-accepted c.check_row-found.ensures _ _ c.in-Accepted.is c.hours_from.ensures
