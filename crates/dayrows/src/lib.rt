@@ -20,14 +20,14 @@ use dayformat::{Counts, Tag, count_of, form_of, row_place};
 pub use field::breaks;
 pub use mdqs::is_idle;
 
-// Where rows stand: in a day's file or block, or in a list of the entries of one side.
+// Where rows stand: in a day's file or block, or in a list of the entries of one side. No closure: `passes` and `fault` speak of it.
 #[derive(Clone, Copy)]
 pub enum Source {
     File,
     Side(usize),
 }
 
-// The tests that refuse by 3, 5 and 4.
+// The tests that refuse by 3, 5 and 4. No closure: `passes`, `first_failing` and the writer's `tables_check` speak of them.
 #[derive(Clone, Copy)]
 pub enum Test {
     Bounds,
@@ -86,7 +86,7 @@ fn names_are_known(source: Source, counts: Counts, numbers: &[usize], tag: Tag, 
 {
     match source {
         Source::File => is_named(counts, numbers, tag, at),
-        Source::Side(side) => true,
+        Source::Side(_) => true,
     }
 }
 

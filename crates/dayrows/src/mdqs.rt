@@ -7,7 +7,7 @@ ghost use Rattle.dayrows.specs.Test.{starved};
 use crate::bounds::number_of;
 use dayformat::{Tag, mdqs_of};
 
-// A schedule above zero, and its MDQ zero.
+// A schedule above zero, and its MDQ zero. daytable has the same of u32s; a function of both types were longer than the line.
 pub fn is_idle(mdq: usize, schedule: usize) -> bool
     ensures { result ≡ idle mdq schedule }
 {

@@ -77,6 +77,7 @@ fn fill_column(counts: Counts, numbers: &[usize], place: u32, out: &mut [u32])
     ensures { out.new ≡ with_column counts (col numbers.now) place out.old }
 {
     let rows = counts.shippers;
+    // The row is what is asked for, so the loop is over rows.
     for row in 0..rows {
         out[row as usize] = number_at(counts, numbers, Tag::Shipper, row, place) as u32;
     }
