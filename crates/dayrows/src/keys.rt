@@ -4,6 +4,7 @@ ghost use Rattle.columns.specs.Column.{col};
 ghost use Rattle.dayrows.specs.Test.{difference, rises, lists, named};
 
 use crate::bounds::number_of;
+use crate::row::Row;
 use dayformat::{Counts, Tag, count_of, form_of, names_of, row_place};
 
 // The first of so many numbers in which those from one place on differ from those from another.
@@ -40,12 +41,14 @@ pub fn lists(counts: Counts, numbers: &[usize], tag: Tag, at: usize) -> bool
     (0..rows).any(|row| key <= first_difference(numbers, key, row_place(counts, tag, row), at))
 }
 
-// Whether the row that begins at a place names only shippers and points that are listed.
-pub fn is_named(counts: Counts, numbers: &[usize], tag: Tag, at: usize) -> bool
-    requires { at < 2 ^ 40 }
-    ensures { result ≡ named counts (col numbers.now) tag at }
+// Whether a row names only shippers and points that are listed.
+pub fn is_named(row: Row) -> bool
+    ensures { result ≡ named row.entry.counts (col row.entry.numbers.now) row.entry.tag row.entry.at }
 {
-    names_of(tag)
-        .iter()
-        .all(|name| lists(counts, numbers, name.tag, at + name.place))
+    names_of(row.tag).iter().all(|name| lists(
+        row.counts,
+        row.numbers,
+        name.tag,
+        row.at + name.place,
+    ))
 }

@@ -7,8 +7,9 @@ mod caps;
 mod field;
 mod keys;
 mod mdqs;
+mod row;
 
-ghost use Rattle.std.specs.Prelude.{◌≡◌, ◌^◌, ◌<◌};
+ghost use Rattle.std.specs.Prelude.{◌≡◌};
 ghost use Rattle.columns.specs.Column.{col};
 ghost use Rattle.dayrows.specs.Test.{of_source, names_known, passes, fault, first_failing};
 
@@ -16,9 +17,10 @@ use crate::caps::is_capped;
 use crate::keys::{is_named, rises};
 use crate::mdqs::is_starved;
 pub use bounds::{is_bounded, is_within, number_of};
-use dayformat::{Counts, Tag, count_of, form_of, row_place};
+use dayformat::{Counts, Tag, count_of, form_of};
 pub use field::breaks;
 pub use mdqs::is_idle;
+pub use row::{Row, row_of};
 
 // Where rows stand: in a day's file or block, or in a list of the entries of one side. No closure: `passes` and `fault` speak of it.
 #[derive(Clone, Copy)]
@@ -58,17 +60,16 @@ fn keeps_bounds(source: Source, counts: Counts, numbers: &[usize], tag: Tag, row
     if form_of(tag).most <= row {
         return false;
     }
-    let at = row_place(counts, tag, row);
-    is_bounded(numbers, tag, at) && is_of_source(source, counts, numbers, tag, at)
+    let row = row_of(counts, numbers, tag, row);
+    is_bounded(row) && is_of_source(source, row)
 }
 
-fn is_of_source(source: Source, counts: Counts, numbers: &[usize], tag: Tag, at: usize) -> bool
-    requires { at < 2 ^ 40 }
-    ensures { result ≡ of_source source counts (col numbers.now) tag at }
+fn is_of_source(source: Source, row: Row) -> bool
+    ensures { result ≡ of_source source row.entry.counts (col row.entry.numbers.now) row.entry.tag row.entry.at }
 {
     match source {
-        Source::File => is_capped(counts, numbers, tag, at),
-        Source::Side(side) => number_of(numbers, at) == side,
+        Source::File => is_capped(row),
+        Source::Side(side) => number_of(row.numbers, row.at) == side,
     }
 }
 
@@ -76,16 +77,14 @@ fn is_of_source(source: Source, counts: Counts, numbers: &[usize], tag: Tag, at:
 fn keeps_key(source: Source, counts: Counts, numbers: &[usize], tag: Tag, row: u32) -> bool
     ensures { result ≡ passes Test.Key source counts (col numbers.now) tag row }
 {
-    rises(counts, numbers, tag, row)
-        && names_are_known(source, counts, numbers, tag, row_place(counts, tag, row))
+    rises(counts, numbers, tag, row) && names_are_known(source, row_of(counts, numbers, tag, row))
 }
 
-fn names_are_known(source: Source, counts: Counts, numbers: &[usize], tag: Tag, at: usize) -> bool
-    requires { at < 2 ^ 40 }
-    ensures { result ≡ names_known source counts (col numbers.now) tag at }
+fn names_are_known(source: Source, row: Row) -> bool
+    ensures { result ≡ names_known source row.entry.counts (col row.entry.numbers.now) row.entry.tag row.entry.at }
 {
     match source {
-        Source::File => is_named(counts, numbers, tag, at),
+        Source::File => is_named(row),
         Source::Side(_) => true,
     }
 }
@@ -94,7 +93,7 @@ fn names_are_known(source: Source, counts: Counts, numbers: &[usize], tag: Tag, 
 fn keeps_mdq(counts: Counts, numbers: &[usize], tag: Tag, row: u32) -> bool
     ensures { result ≡ passes Test.Mdq Source.File counts (col numbers.now) tag row }
 {
-    !is_starved(numbers, tag, row_place(counts, tag, row))
+    !is_starved(row_of(counts, numbers, tag, row))
 }
 
 // Whether a row of a day passes a test.

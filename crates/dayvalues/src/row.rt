@@ -4,7 +4,7 @@ ghost use Rattle.columns.specs.Column.{col};
 ghost use Rattle.dayvalues.specs.Row.{number_at, beyond, beyond_row, row_beginning, row_check};
 
 use dayformat::{Counts, Tag, column_at, count_of, numbers_of, row_place};
-use dayrows::{is_bounded, is_within, number_of};
+use dayrows::{is_bounded, is_within, number_of, row_of};
 use units::Check;
 
 // The number at a place of a row, 0 past the list.
@@ -26,7 +26,7 @@ pub fn is_beyond(counts: Counts, numbers: &[usize], tag: Tag, row: u32, place: u
 fn beyond_row(counts: Counts, numbers: &[usize], tag: Tag, row: u32) -> u32
     ensures { result ≡ beyond_row counts (col numbers.now) tag row }
 {
-    if is_bounded(numbers, tag, row_place(counts, tag, row)) {
+    if is_bounded(row_of(counts, numbers, tag, row)) {
         return count_of(counts, tag);
     }
     row

@@ -12,11 +12,14 @@ returns-then-form_of-row c =
 pub returns-then-is_bounded : goal.returns-then-is_bounded
 unfolding passes
 returns-then-is_bounded c =
-    rw (← ap (λ form. form.most) c.form_of.ensures, lt-ltb _ _ c.if-form_of-row.false, ← c.row_place-at.ensures.0)
-    (rw (← c.is_bounded.ensures, c.if-is_bounded.true) c.is_of_source.ensures)
+    let is = c.row_of-row.ensures in
+    let inside = rw (is.among, is.tagged, is.begins) at c.is_bounded.ensures in
+    rw (← ap (λ form. form.most) c.form_of.ensures, lt-ltb _ _ c.if-form_of-row.false, ← inside, c.if-is_bounded.true)
+    (rw (is.counted, is.among, is.tagged, is.begins) at c.is_of_source.ensures)
 
 pub returns-else-is_bounded : goal.returns-else-is_bounded
 unfolding passes
 returns-else-is_bounded c =
-    rw (← ap (λ form. form.most) c.form_of.ensures, lt-ltb _ _ c.if-form_of-row.false, ← c.row_place-at.ensures.0)
-    (rw (← c.is_bounded.ensures, c.if-is_bounded.false))
+    let is = c.row_of-row.ensures in
+    let inside = rw (is.among, is.tagged, is.begins) at c.is_bounded.ensures in
+    rw (← ap (λ form. form.most) c.form_of.ensures, lt-ltb _ _ c.if-form_of-row.false, ← inside, c.if-is_bounded.false)

@@ -13,11 +13,11 @@ use Rattle.dayrows.proofs.caps.is_capped.Goals as goal
 pub returns-then-not-lists : goal.returns-then-not-lists
 unfolding capped
 returns-then-not-lists c =
-    rw (← first_of c.args.tag c.names_of.ensures (0 is_a Head), ← c.lists.ensures, c.if-not-lists.true)
+    rw (← first_of c.args.row.tag c.names_of.ensures (0 is_a Head), ← c.lists.ensures, c.if-not-lists.true)
 
 pub returns : goal.returns
 unfolding capped
 returns c =
-    let by = λ (row : ℕ). caps c.args.counts (col c.args.numbers.now) c.args.tag c.args.at row in
-    rw (← first_of c.args.tag c.names_of.ensures (0 is_a Head), ← c.lists.ensures, c.if-not-lists.false, ← c.count_of.ensures)
+    let by = λ (other : ℕ). caps c.args.row.counts (col c.args.row.numbers.now) c.args.row.tag c.args.row.at other in
+    rw (← first_of c.args.row.tag c.names_of.ensures (0 is_a Head), ← c.lists.ensures, c.if-not-lists.false, ← c.count_of.ensures)
     (any-first by _ _ _ c.any.result c.any.ensures.ran (λ x b q k. search (rules, tests)))

@@ -13,7 +13,7 @@ use Rattle.dayrows.proofs.keys.is_named.Goals as goal
 
 pub returns : goal.returns
 returns c =
-    let args = c.args in
+    let args = c.args.row in
     let known = λ (name : Name). lists args.counts (col args.numbers.now) name.tag (args.at + name.place) in
     all_from_yields_List known _ _ c.all.result c.all.ensures.ran (YieldsList-from_slice c.names_of.result (cc))
     (λ x b q k. search (rules, tests))

@@ -13,9 +13,9 @@ use Rattle.dayrows.proofs.mdqs.is_starved.Goals as goal
 
 pub returns : goal.returns
 returns c =
-    let f = col c.args.numbers.now in
-    let without = λ (pair : Pair). idle (f (c.args.at + pair.mdq)) (f (c.args.at + pair.schedule)) in
+    let f = col c.args.row.numbers.now in
+    let without = λ (pair : Pair). idle (f (c.args.row.at + pair.mdq)) (f (c.args.row.at + pair.schedule)) in
     any_from_yields_List without _ _ c.any.result c.any.ensures.ran (YieldsList-from_slice c.mdqs_of.result (cc))
     (λ x b q k. search (rules, tests))
-    ∙ idle_any f c.args.at c.mdqs_of.result
+    ∙ idle_any f c.args.row.at c.mdqs_of.result
     ∙ rw (c.mdqs_of.ensures, idle_filled)

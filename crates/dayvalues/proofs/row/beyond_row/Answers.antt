@@ -4,8 +4,14 @@ use Rattle.dayvalues.proofs.row.beyond_row.Goals as goal
 
 pub returns-then-is_bounded : goal.returns-then-is_bounded
 unfolding beyond_row
-returns-then-is_bounded c = rw (← c.row_place.ensures.0, ← c.is_bounded.ensures, c.if-is_bounded.true) c.count_of.ensures
+returns-then-is_bounded c =
+    let is = c.row_of.ensures in
+    let inside = rw (is.among, is.tagged, is.begins) at c.is_bounded.ensures in
+    rw (← inside, c.if-is_bounded.true) c.count_of.ensures
 
 pub returns : goal.returns
 unfolding beyond_row
-returns c = rw (← c.row_place.ensures.0, ← c.is_bounded.ensures, c.if-is_bounded.false)
+returns c =
+    let is = c.row_of.ensures in
+    let inside = rw (is.among, is.tagged, is.begins) at c.is_bounded.ensures in
+    rw (← inside, c.if-is_bounded.false)
