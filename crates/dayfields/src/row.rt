@@ -21,13 +21,10 @@ pub fn read_row(file: &[u8], tag: Tag, at: usize, numbers: &mut [usize], to: usi
     requires { (at ≤ length file.now) × (to < 2 ^ 41) }
     ensures { numbers.new ≡ sets numbers.old to (decode (widths tag) (drop at file.now)) }
 {
-    let columns = form_of(tag).columns;
-    let mut place = 0;
     let mut byte = at;
-    while place < columns {
+    for place in 0..form_of(tag).columns {
         let width = column_at(tag, place).width;
         put(number_at(file, byte, width) as usize, numbers, to + place);
         byte += width;
-        place += 1;
     }
 }

@@ -1,6 +1,6 @@
 // What a body holds: so many numbers of one kind, then so many of the next.
 ghost use Rattle.std.specs.Prelude.{◌≡◌};
-ghost use Rattle.dayformat.specs.Format.{none, ◌of◌, body, column_in, filled_up};
+ghost use Rattle.dayformat.specs.Format.{body, column_in};
 
 use crate::form::Tag;
 
@@ -64,19 +64,11 @@ pub const BACKHAUL: Column = Column {
 // A meter's hours: 11 delivered ones of yesterday, 24 delivered, 24 received.
 pub const METER_HOURS: usize = 11 + 24 + 24;
 
-// Of how many kinds a body is at most, and what fills up a body of fewer.
-const KINDS: usize = 5;
-
-const NOTHING: Several = Several {
-    many: 0,
-    kind: NONE,
-};
-
-fn body_of(tag: Tag) -> [Several; KINDS]
-    ensures { result ≡ filled_up 5 (0 of none) (body tag) }
+fn body_of(tag: Tag) -> &'static [Several]
+    ensures { result.now ≡ body tag }
 {
     match tag {
-        Tag::Head => [
+        Tag::Head => &[
             Several {
                 many: 1,
                 kind: NUMBER,
@@ -85,11 +77,8 @@ fn body_of(tag: Tag) -> [Several; KINDS]
                 many: 2,
                 kind: GIGAJOULES,
             },
-            NOTHING,
-            NOTHING,
-            NOTHING,
         ],
-        Tag::Shipper => [
+        Tag::Shipper => &[
             Several {
                 many: 1,
                 kind: NAME,
@@ -98,11 +87,8 @@ fn body_of(tag: Tag) -> [Several; KINDS]
                 many: 5,
                 kind: GIGAJOULES,
             },
-            NOTHING,
-            NOTHING,
-            NOTHING,
         ],
-        Tag::Point => [
+        Tag::Point => &[
             Several {
                 many: 1,
                 kind: SIDE,
@@ -115,10 +101,8 @@ fn body_of(tag: Tag) -> [Several; KINDS]
                 many: 1,
                 kind: HOUR,
             },
-            NOTHING,
-            NOTHING,
         ],
-        Tag::Entry => [
+        Tag::Entry => &[
             Several {
                 many: 1,
                 kind: SIDE,
@@ -131,10 +115,8 @@ fn body_of(tag: Tag) -> [Several; KINDS]
                 many: 1,
                 kind: HOUR,
             },
-            NOTHING,
-            NOTHING,
         ],
-        Tag::Meter => [
+        Tag::Meter => &[
             Several {
                 many: 1,
                 kind: NAME,
@@ -156,7 +138,7 @@ fn body_of(tag: Tag) -> [Several; KINDS]
                 kind: BACKHAUL,
             },
         ],
-        Tag::Excused => [
+        Tag::Excused => &[
             Several {
                 many: 1,
                 kind: NAME,
@@ -165,9 +147,6 @@ fn body_of(tag: Tag) -> [Several; KINDS]
                 many: METER_HOURS,
                 kind: NUMBER,
             },
-            NOTHING,
-            NOTHING,
-            NOTHING,
         ],
     }
 }
@@ -176,16 +155,12 @@ fn body_of(tag: Tag) -> [Several; KINDS]
 pub fn column_at(tag: Tag, place: usize) -> Column
     ensures { result ≡ column_in (body tag) place }
 {
-    let body = body_of(tag);
     let mut left = place;
-    let mut next = 0;
-    while next < KINDS {
-        let several = body[next];
+    for several in body_of(tag) {
         if left < several.many {
             return several.kind;
         }
         left -= several.many;
-        next += 1;
     }
     NONE
 }

@@ -95,11 +95,9 @@ fn numbers_before(counts: Counts, many: usize) -> usize
     ensures { (result ≡ numbers_before counts many) × (result ≤ sum many (λ place. (form (tag_at place)).columns) * 2 ^ 32) }
 {
     let mut numbers = 0;
-    let mut place = 0;
-    while place < many {
+    for place in 0..many {
         let tag = tag_at(place);
         numbers += count_of(counts, tag) as usize * form_of(tag).columns;
-        place += 1;
     }
     numbers
 }
@@ -125,11 +123,9 @@ fn bytes_before(counts: Counts, many: usize) -> usize
     ensures { (result ≡ bytes_before counts many) × (result ≤ 15 + many * 2 ^ 41) }
 {
     let mut bytes = HEAD_FIELD;
-    let mut place = 0;
-    while place < many {
+    for place in 0..many {
         let tag = tag_at(place);
         bytes += count_of(counts, tag) as usize * (HEADER + form_of(tag).size);
-        place += 1;
     }
     bytes
 }

@@ -8,6 +8,7 @@ ghost use Rattle.daymeters.specs.Hours.{meter_yesterday, meter_hours, with_deliv
 use crate::check_meter;
 use dayformat::{Counts, Tag};
 use dayvalues::{check_row, number_at};
+use std::array;
 use units::{Megajoules, Refusal, keep};
 
 // Where a meter's hours begin.
@@ -26,34 +27,18 @@ pub fn megajoules_at(
     Megajoules(number_at(counts, numbers, tag, row, place) as u64)
 }
 
-// Eleven hours from a place on.
-fn yesterday_from(
+// So many hours from a place on.
+fn hours_from<const N: usize>(
     counts: Counts,
     numbers: &[usize],
     tag: Tag,
     row: u32,
     at: u32,
-) -> [Megajoules; 11]
-    requires { at + 11 ≤ 68 }
-    ensures { result ≡ megajoules (hours_from counts (col numbers.now) tag row at 11) }
+) -> [Megajoules; N]
+    requires { at + N ≤ 68 }
+    ensures { result ≡ megajoules (hours_from counts (col numbers.now) tag row at N) }
 {
-    let mut hours = [Megajoules(0); 11];
-    for hour in 0..11u32 {
-        hours[hour as usize] = megajoules_at(counts, numbers, tag, row, at + hour);
-    }
-    hours
-}
-
-// The 24 hours of a side from a place on.
-fn side_from(counts: Counts, numbers: &[usize], tag: Tag, row: u32, at: u32) -> [Megajoules; 24]
-    requires { at + 24 ≤ 68 }
-    ensures { result ≡ megajoules (hours_from counts (col numbers.now) tag row at 24) }
-{
-    let mut hours = [Megajoules(0); 24];
-    for hour in 0..24u32 {
-        hours[hour as usize] = megajoules_at(counts, numbers, tag, row, at + hour);
-    }
-    hours
+    array::from_fn(|hour| megajoules_at(counts, numbers, tag, row, at + hour as u32))
 }
 
 // Yesterday's, of a row whose hours begin at a place; all zero where its tests refuse.
@@ -69,7 +54,7 @@ pub fn yesterday_of(
 {
     match check_row(counts, numbers, tag, row) {
         Err(_) => [Megajoules(0); 11],
-        Ok(()) => yesterday_from(counts, numbers, tag, row, at),
+        Ok(()) => hours_from(counts, numbers, tag, row, at),
     }
 }
 
@@ -87,8 +72,8 @@ pub fn today_of(
     match check_row(counts, numbers, tag, row) {
         Err(_) => [[Megajoules(0); 24]; 2],
         Ok(()) => {
-            let delivered = side_from(counts, numbers, tag, row, at + 11);
-            let received = side_from(counts, numbers, tag, row, at + 11 + 24);
+            let delivered = hours_from(counts, numbers, tag, row, at + 11);
+            let received = hours_from(counts, numbers, tag, row, at + 11 + 24);
             [delivered, received]
         }
     }

@@ -1,15 +1,14 @@
 -- A row's names looked up one after another, and its MDQs; what fills up a tag's data says nothing.
 use mathlib.Core.Path.{◌≡◌, refl}
-use mathlib.Core.Bool.{true, false}
+use mathlib.Core.Bool.{Bool, true, false, cond, ◌&&◌, ◌||◌}
 use mathlib.Core.List.{List, [], ◌∷◌, ◌++◌}
-use Prim.Native.Nat.{ℕ, zero, suc, ◌+◌, ◌-◌, ◌≤◌, ◌<◌}
+use Prim.Native.Nat.{ℕ, zero, suc, ◌+◌, ◌-◌, ◌<◌}
 use native.Mathlib.Numerals.{add-one}
 use native.Mathlib.Omega.{arith}
-use lib.Dec.{leb}
 use lib.ListN.{length, get_or, drop, replicate}
 use lib.Seq.{drop-cons}
-use borrow.Author.Tests.{leb-true, ne_eqb}
-use Rattle.columns.specs.First.{first_from}
+use borrow.Author.Tests.{ne_eqb}
+use Rattle.std.specs.List.{list_any, list_all}
 use Rattle.daytable.specs.Acceptance.{idle}
 use Rattle.dayformat.specs.declared.form.Tag.{Tag}
 use Rattle.dayformat.specs.declared.form.Tag.TheVariants.{Head}
@@ -17,8 +16,7 @@ use Rattle.dayformat.specs.declared.rules.Name.{Name}
 use Rattle.dayformat.specs.declared.rules.Pair.{Pair}
 use Rattle.dayformat.specs.declared.layout.Counts.{Counts}
 use Rattle.dayformat.specs.Format.{◌is_a◌, names, ◌for◌, mdqs, filled_up}
-use Rattle.dayformat.proofs.Every.{passes-every, all_of, all_at}
-use Rattle.dayformat.proofs.Filled.{length_filled, names_filled, mdqs_filled}
+use Rattle.dayformat.proofs.Filled.{names_filled, mdqs_filled}
 use Rattle.dayrows.specs.Test.{lists, names_listed, named, some_idle, starved}
 use Rattle.dayrows.proofs.Enough.{listed_by}
 
@@ -38,19 +36,15 @@ module _ (counts : Counts) (f : ℕ → ℕ) (at : ℕ) where
   pub listed_filled : (tag : Tag) → names_listed counts f at (filled_up 2 (0 is_a Head) (names tag)) ≡ named counts f tag at
   listed_filled tag = rw (names_filled tag) (listed_more (names tag) (2 - length (names tag)))
 
-  -- the names from one on: all are listed where the first is and those after it are
-  module _ (list : List Name) (next : ℕ) (past : Name) (l : next < length list) where
-    abbrev name : Name
-    name = get_or list next past
-
-    pub unlisted : lists counts f name.tag (at + name.place) ≡ false → names_listed counts f at (drop next list) ≡ false
-    unfolding names_listed
-    unlisted e = rw (drop-cons list next past l, e)
-
-    pub listed_next : lists counts f name.tag (at + name.place) ≡ true
-        → names_listed counts f at (drop next list) ≡ names_listed counts f at (drop (next + 1) list)
-    unfolding names_listed
-    listed_next e = rw (drop-cons list next past l, e, add-one)
+  -- all are listed where each is
+  pub listed_all : (list : List Name) → list_all (λ name. lists counts f name.tag (at + name.place)) list ≡ names_listed counts f at list
+  unfolding names_listed
+  listed_all [] = refl
+  listed_all (name ∷ rest) = by (lists counts f name.tag (at + name.place)) (listed_all rest)
+    where
+      by : (b : Bool) {all : Bool} → all ≡ names_listed counts f at rest → (b && all) ≡ cond b (names_listed counts f at rest) false
+      by true e = e
+      by false e = refl
 
 module _ (f : ℕ → ℕ) (at : ℕ) where
   -- no number is without itself
@@ -71,6 +65,16 @@ module _ (f : ℕ → ℕ) (at : ℕ) where
   pub idle_filled : (tag : Tag) → some_idle f at (filled_up 2 (0 for 0) (mdqs tag)) ≡ starved f tag at
   idle_filled tag = rw (mdqs_filled tag) (idle-more (mdqs tag) (2 - length (mdqs tag)))
 
+  -- some schedule is without its MDQ where any is
+  pub idle_any : (list : List Pair) → list_any (λ pair. idle (f (at + pair.mdq)) (f (at + pair.schedule))) list ≡ some_idle f at list
+  unfolding some_idle
+  idle_any [] = refl
+  idle_any (pair ∷ rest) = by (idle (f (at + pair.mdq)) (f (at + pair.schedule))) (idle_any rest)
+    where
+      by : (b : Bool) {any : Bool} → any ≡ some_idle f at rest → (b || any) ≡ cond b true (some_idle f at rest)
+      by true e = refl
+      by false e = e
+
   -- the MDQs from one on: some schedule is without its MDQ where the first is or one after it is
   module _ (list : List Pair) (next : ℕ) (past : Pair) (l : next < length list) where
     abbrev pair : Pair
@@ -84,12 +88,3 @@ module _ (f : ℕ → ℕ) (at : ℕ) where
         → some_idle f at (drop next list) ≡ some_idle f at (drop (next + 1) list)
     unfolding some_idle
     idle-next e = rw (drop-cons list next past l, e, add-one)
-
--- ---- the places of a row's names are near its begin
-pub names-near : (tag : Tag) (next : ℕ) (past : Name) → next < 2 → (get_or (filled_up 2 (0 is_a Head) (names tag)) next past).place ≤ 68
-unfolding first_from
-names-near tag next past l =
-    leb-true _ _
-    (all_at (λ name. leb name.place 68) (filled_up 2 (0 is_a Head) (names tag))
-    (passes-every (λ tag. all_of (λ name. leb name.place 68) (filled_up 2 (0 is_a Head) (names tag))) refl (omega arith) tag) next past
-    (rw length_filled l))

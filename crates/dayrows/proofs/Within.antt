@@ -20,9 +20,6 @@ both true x e = (refl, e)
 both false x e = let z : ◌≡◌ {A = ℕ} 0 1 = cc in absurd (omega arith)
 
 module _ (column : Column) (number : ℕ) where
-  pub below-low : number < column.low → not (in_bounds column number) ≡ true
-  below-low l = rw (lt-leb column.low number l)
-
   pub above-high : column.low ≤ number → column.high < number → not (in_bounds column number) ≡ true
   above-high l h = rw (le-leb column.low number l, lt-leb number column.high h)
 

@@ -1,37 +1,31 @@
 // 3: a number beyond its bound.
-ghost use Rattle.std.specs.Prelude.{◌≡◌, ◌^◌, ◌<◌};
+ghost use Rattle.std.specs.Prelude.{◌≡◌};
 ghost use Rattle.columns.specs.Column.{col};
-ghost use Rattle.dayrows.specs.Test.{bounded};
+ghost use Rattle.dayrows.specs.Test.{in_bounds, bounded};
 
-use dayformat::{Tag, column_at, form_of};
+use crate::row::Row;
+use dayformat::{Column, column_at, form_of};
 
 // The number at a place, 0 past the list.
 pub fn number_of(numbers: &[usize], at: usize) -> usize
     ensures { result ≡ col numbers.now at }
 {
-    if numbers.len() <= at {
-        return 0;
-    }
-    numbers[at]
+    numbers.get(at).copied().unwrap_or(0)
 }
 
-// Whether every number of the row that begins at a place is within its bounds.
-pub fn is_bounded(numbers: &[usize], tag: Tag, at: usize) -> bool
-    requires { at < 2 ^ 40 }
-    ensures { result ≡ bounded (col numbers.now) tag at }
+// Whether a number is within its bounds.
+pub fn is_within(column: Column, number: usize) -> bool
+    ensures { result ≡ in_bounds column number }
 {
-    let columns = form_of(tag).columns;
-    let mut place = 0;
-    while place < columns {
-        let column = column_at(tag, place);
-        let number = number_of(numbers, at + place);
-        if number < column.low {
-            return false;
-        }
-        if column.high < number {
-            return false;
-        }
-        place += 1;
-    }
-    true
+    column.low <= number && number <= column.high
+}
+
+// Whether every number of a row is within its bounds.
+pub fn is_bounded(row: Row) -> bool
+    ensures { result ≡ bounded (col row.entry.numbers.now) row.entry.tag row.entry.at }
+{
+    (0..form_of(row.tag).columns).all(|place| is_within(
+        column_at(row.tag, place),
+        number_of(row.numbers, row.at + place),
+    ))
 }

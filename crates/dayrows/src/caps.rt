@@ -5,58 +5,38 @@ ghost use Rattle.dayrows.specs.Test.{all_under, caps, capped};
 
 use crate::bounds::number_of;
 use crate::keys::{first_difference, lists};
-use dayformat::{Counts, Tag, cap_of, count_of, form_of, names_of, row_place};
+use crate::row::Row;
+use dayformat::{cap_of, count_of, form_of, names_of, row_place};
 
 // Whether none of so many numbers from one place on is above that from another on.
 fn all_under(numbers: &[usize], many: usize, one: usize, other: usize) -> bool
     requires { (many ≤ 68) × (one < 2 ^ 41) × (other < 2 ^ 41) }
     ensures { result ≡ all_under (col numbers.now) many one other }
 {
-    let mut place = 0;
-    while place < many {
-        if number_of(numbers, other + place) < number_of(numbers, one + place) {
-            return false;
-        }
-        place += 1;
-    }
-    true
+    (0..many).all(|place| number_of(numbers, one + place) <= number_of(numbers, other + place))
 }
 
-// Whether a row has the first name of the row at a place, and caps its numbers.
-fn caps(counts: Counts, numbers: &[usize], tag: Tag, at: usize, row: u32) -> bool
-    requires { at < 2 ^ 40 }
-    ensures { result ≡ caps counts (col numbers.now) tag at row }
+// Whether another row has the first name of a row, and caps its numbers.
+fn caps(row: Row, other: u32) -> bool
+    ensures { result ≡ caps row.entry.counts (col row.entry.numbers.now) row.entry.tag row.entry.at other }
 {
-    let names = names_of(tag);
-    let name = names[0];
-    let named = name.tag;
-    let key = form_of(named).key;
-    let start = row_place(counts, named, row);
-    if first_difference(numbers, key, start, at + name.place) < key {
+    let name = names_of(row.tag)[0];
+    let key = form_of(name.tag).key;
+    let start = row_place(row.counts, name.tag, other);
+    if first_difference(row.numbers, key, start, row.at + name.place) < key {
         return false;
     }
-    let cap = cap_of(tag);
-    all_under(numbers, cap.many, at + cap.place, start + cap.under)
+    let cap = cap_of(row.tag);
+    all_under(row.numbers, cap.many, row.at + cap.place, start + cap.under)
 }
 
-// Whether some row that the row at a place names caps its numbers, where there is any.
-pub fn is_capped(counts: Counts, numbers: &[usize], tag: Tag, at: usize) -> bool
-    requires { at < 2 ^ 40 }
-    ensures { result ≡ capped counts (col numbers.now) tag at }
+// Whether some row that a row names caps its numbers, where there is any.
+pub fn is_capped(row: Row) -> bool
+    ensures { result ≡ capped row.entry.counts (col row.entry.numbers.now) row.entry.tag row.entry.at }
 {
-    let names = names_of(tag);
-    let name = names[0];
-    let named = name.tag;
-    if !lists(counts, numbers, named, at + name.place) {
+    let name = names_of(row.tag)[0];
+    if !lists(row.counts, row.numbers, name.tag, row.at + name.place) {
         return true;
     }
-    let rows = count_of(counts, named);
-    let mut row = 0;
-    while row < rows {
-        if caps(counts, numbers, tag, at, row) {
-            return true;
-        }
-        row += 1;
-    }
-    false
+    (0..count_of(row.counts, name.tag)).any(|other| caps(row, other))
 }

@@ -4,21 +4,17 @@ ghost use Rattle.columns.specs.Column.{col};
 ghost use Rattle.dayrows.specs.Test.{difference, rises, lists, named};
 
 use crate::bounds::number_of;
-use dayformat::{Counts, NAMES, Tag, count_of, form_of, names_of, row_place};
+use crate::row::Row;
+use dayformat::{Counts, Tag, count_of, form_of, names_of, row_place};
 
 // The first of so many numbers in which those from one place on differ from those from another.
 pub fn first_difference(numbers: &[usize], many: usize, one: usize, other: usize) -> usize
     requires { (many ≤ 68) × (one < 2 ^ 41) × (other < 2 ^ 41) }
     ensures { (result ≡ difference (col numbers.now) many one other) × (result ≤ many) }
 {
-    let mut place = 0;
-    while place < many {
-        if number_of(numbers, one + place) != number_of(numbers, other + place) {
-            return place;
-        }
-        place += 1;
-    }
-    place
+    (0..many)
+        .find(|place| number_of(numbers, one + *place) != number_of(numbers, other + *place))
+        .unwrap_or(many)
 }
 
 // Whether a row's key is greater than that of the row before.
@@ -32,10 +28,7 @@ pub fn rises(counts: Counts, numbers: &[usize], tag: Tag, row: u32) -> bool
     let before = row_place(counts, tag, row - 1);
     let here = row_place(counts, tag, row);
     let place = first_difference(numbers, key, before, here);
-    if place < key {
-        return number_of(numbers, before + place) < number_of(numbers, here + place);
-    }
-    false
+    place < key && number_of(numbers, before + place) < number_of(numbers, here + place)
 }
 
 // Whether some row of the tag has the key that stands at a place.
@@ -45,30 +38,17 @@ pub fn lists(counts: Counts, numbers: &[usize], tag: Tag, at: usize) -> bool
 {
     let key = form_of(tag).key;
     let rows = count_of(counts, tag);
-    let mut row = 0;
-    while row < rows {
-        if key <= first_difference(numbers, key, row_place(counts, tag, row), at) {
-            return true;
-        }
-        row += 1;
-    }
-    false
+    (0..rows).any(|row| key <= first_difference(numbers, key, row_place(counts, tag, row), at))
 }
 
-// Whether the row that begins at a place names only shippers and points that are listed.
-pub fn is_named(counts: Counts, numbers: &[usize], tag: Tag, at: usize) -> bool
-    requires { at < 2 ^ 40 }
-    ensures { result ≡ named counts (col numbers.now) tag at }
+// Whether a row names only shippers and points that are listed.
+pub fn is_named(row: Row) -> bool
+    ensures { result ≡ named row.entry.counts (col row.entry.numbers.now) row.entry.tag row.entry.at }
 {
-    let names = names_of(tag);
-    let mut next = 0;
-    while next < NAMES {
-        let name = names[next];
-        let listing = name.tag;
-        if !lists(counts, numbers, listing, at + name.place) {
-            return false;
-        }
-        next += 1;
-    }
-    true
+    names_of(row.tag).iter().all(|name| lists(
+        row.counts,
+        row.numbers,
+        name.tag,
+        row.at + name.place,
+    ))
 }

@@ -7,28 +7,29 @@ mod caps;
 mod field;
 mod keys;
 mod mdqs;
+mod row;
 
-ghost use Rattle.std.specs.Prelude.{◌≡◌, ◌^◌, ◌<◌};
+ghost use Rattle.std.specs.Prelude.{◌≡◌};
 ghost use Rattle.columns.specs.Column.{col};
 ghost use Rattle.dayrows.specs.Test.{of_source, names_known, passes, fault, first_failing};
 
-use crate::bounds::is_bounded;
 use crate::caps::is_capped;
 use crate::keys::{is_named, rises};
 use crate::mdqs::is_starved;
-pub use bounds::number_of;
-use dayformat::{Counts, Tag, count_of, form_of, row_place};
+pub use bounds::{is_bounded, is_within, number_of};
+use dayformat::{Counts, Tag, count_of, form_of};
 pub use field::breaks;
 pub use mdqs::is_idle;
+pub use row::{Row, row_of};
 
-// Where rows stand: in a day's file or block, or in a list of the entries of one side.
+// Where rows stand: in a day's file or block, or in a list of the entries of one side. No closure: `passes` and `fault` speak of it.
 #[derive(Clone, Copy)]
 pub enum Source {
     File,
     Side(usize),
 }
 
-// The tests that refuse by 3, 5 and 4.
+// The tests that refuse by 3, 5 and 4. No closure: `passes`, `first_failing` and the writer's `tables_check` speak of them.
 #[derive(Clone, Copy)]
 pub enum Test {
     Bounds,
@@ -59,20 +60,16 @@ fn keeps_bounds(source: Source, counts: Counts, numbers: &[usize], tag: Tag, row
     if form_of(tag).most <= row {
         return false;
     }
-    let at = row_place(counts, tag, row);
-    if is_bounded(numbers, tag, at) {
-        return is_of_source(source, counts, numbers, tag, at);
-    }
-    false
+    let row = row_of(counts, numbers, tag, row);
+    is_bounded(row) && is_of_source(source, row)
 }
 
-fn is_of_source(source: Source, counts: Counts, numbers: &[usize], tag: Tag, at: usize) -> bool
-    requires { at < 2 ^ 40 }
-    ensures { result ≡ of_source source counts (col numbers.now) tag at }
+fn is_of_source(source: Source, row: Row) -> bool
+    ensures { result ≡ of_source source row.entry.counts (col row.entry.numbers.now) row.entry.tag row.entry.at }
 {
     match source {
-        Source::File => is_capped(counts, numbers, tag, at),
-        Source::Side(side) => number_of(numbers, at) == side,
+        Source::File => is_capped(row),
+        Source::Side(side) => number_of(row.numbers, row.at) == side,
     }
 }
 
@@ -80,19 +77,15 @@ fn is_of_source(source: Source, counts: Counts, numbers: &[usize], tag: Tag, at:
 fn keeps_key(source: Source, counts: Counts, numbers: &[usize], tag: Tag, row: u32) -> bool
     ensures { result ≡ passes Test.Key source counts (col numbers.now) tag row }
 {
-    if rises(counts, numbers, tag, row) {
-        return names_are_known(source, counts, numbers, tag, row_place(counts, tag, row));
-    }
-    false
+    rises(counts, numbers, tag, row) && names_are_known(source, row_of(counts, numbers, tag, row))
 }
 
-fn names_are_known(source: Source, counts: Counts, numbers: &[usize], tag: Tag, at: usize) -> bool
-    requires { at < 2 ^ 40 }
-    ensures { result ≡ names_known source counts (col numbers.now) tag at }
+fn names_are_known(source: Source, row: Row) -> bool
+    ensures { result ≡ names_known source row.entry.counts (col row.entry.numbers.now) row.entry.tag row.entry.at }
 {
     match source {
-        Source::File => is_named(counts, numbers, tag, at),
-        Source::Side(side) => true,
+        Source::File => is_named(row),
+        Source::Side(_) => true,
     }
 }
 
@@ -100,7 +93,7 @@ fn names_are_known(source: Source, counts: Counts, numbers: &[usize], tag: Tag, 
 fn keeps_mdq(counts: Counts, numbers: &[usize], tag: Tag, row: u32) -> bool
     ensures { result ≡ passes Test.Mdq Source.File counts (col numbers.now) tag row }
 {
-    !is_starved(numbers, tag, row_place(counts, tag, row))
+    !is_starved(row_of(counts, numbers, tag, row))
 }
 
 // Whether a row of a day passes a test.
@@ -119,12 +112,7 @@ pub fn first_failing_row(test: Test, counts: Counts, numbers: &[usize], tag: Tag
     ensures { result ≡ first_failing test counts (col numbers.now) tag }
 {
     let rows = count_of(counts, tag);
-    let mut row = 0;
-    while row < rows {
-        if !row_passes(test, counts, numbers, tag, row) {
-            return row;
-        }
-        row += 1;
-    }
-    row
+    (0..rows)
+        .find(|row| !row_passes(test, counts, numbers, tag, *row))
+        .unwrap_or(rows)
 }

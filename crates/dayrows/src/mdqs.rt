@@ -1,36 +1,26 @@
 // 4: a firm or auction schedule above zero with that MDQ zero.
-ghost use Rattle.std.specs.Prelude.{◌≡◌, ◌^◌, ◌<◌};
+ghost use Rattle.std.specs.Prelude.{◌≡◌};
 ghost use Rattle.columns.specs.Column.{col};
 ghost use Rattle.daytable.specs.Acceptance.{idle};
 ghost use Rattle.dayrows.specs.Test.{starved};
 
 use crate::bounds::number_of;
-use dayformat::{MDQS, Tag, mdqs_of};
+use crate::row::Row;
+use dayformat::mdqs_of;
 
-// A schedule above zero, and its MDQ zero.
+// A schedule above zero, and its MDQ zero. daytable has the same of u32s; a function of both types were longer than the line.
 pub fn is_idle(mdq: usize, schedule: usize) -> bool
     ensures { result ≡ idle mdq schedule }
 {
-    if mdq == 0 {
-        return 0 < schedule;
-    }
-    false
+    mdq == 0 && 0 < schedule
 }
 
-// Whether the row that begins at a place has a schedule without its MDQ.
-pub fn is_starved(numbers: &[usize], tag: Tag, at: usize) -> bool
-    requires { at < 2 ^ 40 }
-    ensures { result ≡ starved (col numbers.now) tag at }
+// Whether a row has a schedule without its MDQ.
+pub fn is_starved(row: Row) -> bool
+    ensures { result ≡ starved (col row.entry.numbers.now) row.entry.tag row.entry.at }
 {
-    let mdqs = mdqs_of(tag);
-    let mut next = 0;
-    while next < MDQS {
-        let pair = mdqs[next];
-        let mdq = number_of(numbers, at + pair.mdq);
-        if is_idle(mdq, number_of(numbers, at + pair.schedule)) {
-            return true;
-        }
-        next += 1;
-    }
-    false
+    mdqs_of(row.tag).iter().any(|pair| {
+        let mdq = number_of(row.numbers, row.at + pair.mdq);
+        is_idle(mdq, number_of(row.numbers, row.at + pair.schedule))
+    })
 }

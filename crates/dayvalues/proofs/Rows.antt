@@ -1,28 +1,18 @@
--- The row where a number is beyond its bounds: how a search finds it, and what it says of the row's numbers.
+-- The row where a number is beyond its bounds: what it says of the row's numbers.
 use mathlib.Core.Path.{◌≡◌, refl}
 use mathlib.Core.Bool.{Bool, true, false, cond}
 use Prim.Native.Nat.{ℕ, ◌≤◌, ◌<◌}
 use native.Mathlib.Omega.{arith}
 use borrow.Author.Tests.{leb-true}
-use Rattle.columns.proofs.Firsts.{Searched, first-passed}
+use Rattle.columns.proofs.Firsts.{first-passed}
 use Rattle.dayformat.specs.declared.form.Tag.{Tag}
 use Rattle.dayformat.specs.declared.layout.Counts.{Counts}
 use Rattle.dayformat.specs.Format.{form}
 use Rattle.dayformat.specs.Layout.{count, row_start}
 use Rattle.dayrows.specs.Test.{bounded}
-use Rattle.dayrows.proofs.Searches.{not_clear, clear}
 use Rattle.dayvalues.specs.Row.{beyond, beyond_row}
 
 module _ (counts : Counts) (numbers : ℕ → ℕ) (tag : Tag) (row : ℕ) where
-  module _ (place : ℕ) (S : Searched (beyond counts numbers tag row) (form tag).columns place) where
-    pub stops_at : place < (form tag).columns → beyond counts numbers tag row place ≡ true → row ≡ beyond_row counts numbers tag row
-    unfolding beyond_row bounded beyond
-    stops_at l e = rw (not_clear (beyond counts numbers tag row) (form tag).columns place S l e)
-
-    pub passes-all : (form tag).columns ≤ place → count counts tag ≡ beyond_row counts numbers tag row
-    unfolding beyond_row bounded beyond
-    passes-all l = rw (clear (beyond counts numbers tag row) (form tag).columns place S l)
-
   -- where it is past the rows no number is
   pub none-beyond : row < count counts tag → count counts tag ≤ beyond_row counts numbers tag row
       → (place : ℕ) → place < (form tag).columns → beyond counts numbers tag row place ≡ false

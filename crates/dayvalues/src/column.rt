@@ -36,14 +36,9 @@ fn first_beyond(counts: Counts, numbers: &[usize], place: u32) -> u32
     ensures { result ≡ first_beyond counts (col numbers.now) place }
 {
     let rows = counts.shippers;
-    let mut row = 0;
-    while row < rows {
-        if is_beyond(counts, numbers, Tag::Shipper, row, place) {
-            return row;
-        }
-        row += 1;
-    }
-    row
+    (0..rows)
+        .find(|row| is_beyond(counts, numbers, Tag::Shipper, *row, place))
+        .unwrap_or(rows)
 }
 
 // The first test that a column fails, with room for so many rows. The rows are looked at where there are few.
@@ -71,6 +66,7 @@ fn fill_column(counts: Counts, numbers: &[usize], place: u32, out: &mut [u32])
     ensures { out.new ≡ with_column counts (col numbers.now) place out.old }
 {
     let rows = counts.shippers;
+    // The row is what is asked for, so the loop is over rows.
     for row in 0..rows {
         out[row as usize] = number_at(counts, numbers, Tag::Shipper, row, place) as u32;
     }

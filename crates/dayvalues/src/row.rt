@@ -3,8 +3,8 @@ ghost use Rattle.std.specs.Prelude.{◌≡◌};
 ghost use Rattle.columns.specs.Column.{col};
 ghost use Rattle.dayvalues.specs.Row.{number_at, beyond, beyond_row, row_beginning, row_check};
 
-use dayformat::{Counts, Tag, column_at, count_of, form_of, numbers_of, row_place};
-use dayrows::number_of;
+use dayformat::{Counts, Tag, column_at, count_of, numbers_of, row_place};
+use dayrows::{is_bounded, is_within, number_of, row_of};
 use units::{Refusal, clear, keep};
 
 // The number at a place of a row, 0 past the list.
@@ -18,30 +18,18 @@ pub fn number_at(counts: Counts, numbers: &[usize], tag: Tag, row: u32, place: u
 pub fn is_beyond(counts: Counts, numbers: &[usize], tag: Tag, row: u32, place: u32) -> bool
     ensures { result ≡ beyond counts (col numbers.now) tag row place }
 {
-    let column = column_at(tag, place as usize);
     let number = number_at(counts, numbers, tag, row, place);
-    if number < column.low {
-        return true;
-    }
-    if column.high < number {
-        return true;
-    }
-    false
+    !is_within(column_at(tag, place as usize), number)
 }
 
 // The row, where one of its numbers is beyond its bounds; else the number of rows.
 fn beyond_row(counts: Counts, numbers: &[usize], tag: Tag, row: u32) -> u32
     ensures { result ≡ beyond_row counts (col numbers.now) tag row }
 {
-    let columns = form_of(tag).columns as u32;
-    let mut place = 0;
-    while place < columns {
-        if is_beyond(counts, numbers, tag, row, place) {
-            return row;
-        }
-        place += 1;
+    if is_bounded(row_of(counts, numbers, tag, row)) {
+        return count_of(counts, tag);
     }
-    count_of(counts, tag)
+    row
 }
 
 // The first row of a table that begins with a number, or the number of rows.
@@ -49,14 +37,9 @@ pub fn row_beginning(counts: Counts, numbers: &[usize], tag: Tag, number: u32) -
     ensures { result ≡ row_beginning counts (col numbers.now) tag number }
 {
     let rows = count_of(counts, tag);
-    let mut row = 0;
-    while row < rows {
-        if number_at(counts, numbers, tag, row, 0) == number as usize {
-            return row;
-        }
-        row += 1;
-    }
-    row
+    (0..rows)
+        .find(|row| number_at(counts, numbers, tag, *row, 0) == number as usize)
+        .unwrap_or(rows)
 }
 
 // The first test that a row fails.

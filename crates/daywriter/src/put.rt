@@ -20,15 +20,12 @@ fn put_body(tag: Tag, numbers: &[usize], from: usize, block: &mut [u8], at: usiz
     ensures { block.new ≡ sets block.old at
         (encode (widths tag) (row_from (col numbers.now) tag from)) }
 {
-    let columns = form_of(tag).columns;
-    let mut place = 0;
     let mut byte = at;
-    while place < columns {
+    for place in 0..form_of(tag).columns {
         let width = column_at(tag, place).width;
         let number = number_of(numbers, from + place);
         put_number((number % 4_294_967_296) as u32, width, block, byte);
         byte += width;
-        place += 1;
     }
 }
 
@@ -50,13 +47,10 @@ fn put_fields(tag: Tag, counts: Counts, numbers: &[usize], block: &mut [u8], at:
         × (result ≡ at + run_size counts tag) × (result < at + 2 ^ 41) }
 {
     let size = HEADER + form_of(tag).size;
-    let rows = count_of(counts, tag);
-    let mut row = 0;
     let mut byte = at;
-    while row < rows {
+    for row in 0..count_of(counts, tag) {
         put_field(tag, numbers, row_place(counts, tag, row), block, byte);
         byte += size;
-        row += 1;
     }
     byte
 }
@@ -67,10 +61,8 @@ fn put_tables(counts: Counts, numbers: &[usize], block: &mut [u8])
         (joined many_tables (λ place. fields counts (col numbers.now) (tag_at place))) }
 {
     let mut at = HEAD_FIELD;
-    let mut place = 0;
-    while place < TABLES {
+    for place in 0..TABLES {
         at = put_fields(tag_at(place), counts, numbers, block, at);
-        place += 1;
     }
 }
 

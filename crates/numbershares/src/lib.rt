@@ -42,7 +42,7 @@ fn check_figures(day: Day, numbers: &[usize]) -> Result<(), Refusal>
 }
 
 // A column of gigajoules, zeros past its rows.
-fn column_of(counts: Counts, numbers: &[usize], which: ShipperColumn) -> [u32; 64]
+fn column_of(counts: Counts, numbers: &[usize], which: ShipperColumn) -> [u32; MOST_ROWS]
     requires { column_check counts numbers.now (place_of which) most_rows ≡ Ok tt }
     ensures { result ≡ with_column counts (col numbers.now) (place_of which) (replicate most_rows 0) }
 {

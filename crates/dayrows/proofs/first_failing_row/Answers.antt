@@ -1,23 +1,19 @@
-use mathlib.Core.Path.{ap}
+-- The iterator looks for the first row that fails.
+use mathlib.Core.Path.{ap, ◌∙◌}
 use mathlib.Core.Bool.{not}
-use Rattle.columns.proofs.Firsts.{searched_none, searched_more, stops, ends}
+use Prim.Native.Nat.{ℕ}
+use borrow.Author.Tests.{tests}
+use Rattle.std.proofs.Common.{rules}
+use Rattle.columns.specs.Column.{col}
+use Rattle.columns.specs.First.{first}
+use Rattle.dayrows.specs.declared.Source.TheVariants.{File}
+use Rattle.dayrows.specs.Test.{passes}
+use Rattle.dayrows.proofs.Searches.{find-first}
 use Rattle.dayrows.proofs.first_failing_row.Goals as goal
 
-pub loop-row-init : goal.loop-row-init
-loop-row-init c = (c.count_of-rows.ensures, searched_none _ _)
-
-pub returns-then-not-row_passes : goal.returns-then-not-row_passes
-returns-then-not-row_passes c =
-    let inv = c.loop-row.invariant in
-    rw (← inv.0)
-    (stops _ _ _ inv.1 c.loop-row-test.true (rw (← c.row_passes.ensures) (ap not c.if-not-row_passes.true)))
-
-pub loop-row-preserved : goal.loop-row-preserved
-loop-row-preserved c =
-    let inv = c.loop-row.invariant in (
-      inv.0,
-      searched_more _ _ _ inv.1 c.loop-row-test.true (rw (← c.row_passes.ensures) (ap not c.if-not-row_passes.false)),
-    )
-
 pub returns : goal.returns
-returns c = let inv = c.loop-row.invariant in rw (← inv.0) (ends _ _ _ inv.1 c.loop-row-test.false)
+returns c =
+    let fails = λ (row : ℕ). not (passes c.args.test File c.args.counts (col c.args.numbers.now) c.args.tag row) in
+    c.unwrap_or.ensures
+    ∙ find-first fails _ _ _ c.find.result c.find.ensures.ran (λ x b q k. search (rules, tests))
+    ∙ ap (λ n. first n fails) c.count_of-rows.ensures

@@ -1,4 +1,4 @@
--- Each early return is the first of the three tests that does not hold; the last is the source's own.
+-- The tests one by one; the last is the source's own.
 use mathlib.Core.Path.{ap}
 use borrow.Author.Tests.{lt-ltb, le-ltb}
 use Rattle.dayrows.specs.Test.{passes}
@@ -7,18 +7,19 @@ use Rattle.dayrows.proofs.keeps_bounds.Goals as goal
 pub returns-then-form_of-row : goal.returns-then-form_of-row
 unfolding passes
 returns-then-form_of-row c =
-    let most = ap (λ form. form.most) c.form_of.ensures in rw (← most, le-ltb _ _ c.if-form_of-row.true)
+    rw (← ap (λ form. form.most) c.form_of.ensures, le-ltb _ _ c.if-form_of-row.true)
 
 pub returns-then-is_bounded : goal.returns-then-is_bounded
 unfolding passes
 returns-then-is_bounded c =
-    let most = ap (λ form. form.most) c.form_of.ensures in
-    rw (← most, lt-ltb _ _ c.if-form_of-row.false, ← c.row_place-at.ensures.0)
-    (rw (← c.is_bounded.ensures, c.if-is_bounded.true) c.is_of_source.ensures)
+    let is = c.row_of-row.ensures in
+    let inside = rw (is.among, is.tagged, is.begins) at c.is_bounded.ensures in
+    rw (← ap (λ form. form.most) c.form_of.ensures, lt-ltb _ _ c.if-form_of-row.false, ← inside, c.if-is_bounded.true)
+    (rw (is.counted, is.among, is.tagged, is.begins) at c.is_of_source.ensures)
 
-pub returns : goal.returns
+pub returns-else-is_bounded : goal.returns-else-is_bounded
 unfolding passes
-returns c =
-    let most = ap (λ form. form.most) c.form_of.ensures in
-    rw (← most, lt-ltb _ _ c.if-form_of-row.false, ← c.row_place-at.ensures.0)
-    (rw (← c.is_bounded.ensures, c.if-is_bounded.false))
+returns-else-is_bounded c =
+    let is = c.row_of-row.ensures in
+    let inside = rw (is.among, is.tagged, is.begins) at c.is_bounded.ensures in
+    rw (← ap (λ form. form.most) c.form_of.ensures, lt-ltb _ _ c.if-form_of-row.false, ← inside, c.if-is_bounded.false)

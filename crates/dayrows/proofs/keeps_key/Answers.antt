@@ -5,8 +5,9 @@ use Rattle.dayrows.proofs.keeps_key.Goals as goal
 pub returns-then-rises : goal.returns-then-rises
 unfolding passes
 returns-then-rises c =
-    rw (← c.rises.ensures, c.if-rises.true, ← c.row_place.ensures.0) c.names_are_known.ensures
+    let is = c.row_of.ensures in
+    rw (← c.rises.ensures, c.if-rises.true) (rw (is.counted, is.among, is.tagged, is.begins) at c.names_are_known.ensures)
 
-pub returns : goal.returns
+pub returns-else-rises : goal.returns-else-rises
 unfolding passes
-returns c = rw (← c.rises.ensures, c.if-rises.false)
+returns-else-rises c = rw (← c.rises.ensures, c.if-rises.false)

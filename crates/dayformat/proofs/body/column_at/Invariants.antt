@@ -1,12 +1,8 @@
--- The kinds from `next` on have at `left` what all have at the place.
+-- The kinds from the next on say of what is left what all of them say of the place.
 use mathlib.Core.Path.{◌≡◌}
-use Prim.Native.Nat.{◌-◌, ◌≤◌}
 use lib.ListN.{drop}
 use Rattle.dayformat.specs.Format.{body, column_in}
 use Rattle.dayformat.proofs.body.column_at.Given as goal
 
-abbrev pub invariant-loop-next : goal.invariant-loop-next
-invariant-loop-next l = (column_in (drop l.next l.body) l.left ≡ column_in l.body l.place) × (l.next ≤ 5)
-
-abbrev pub decreases-loop-next : goal.decreases-loop-next
-decreases-loop-next l = 5 - l.next
+abbrev pub invariant-loop-several : goal.invariant-loop-several
+invariant-loop-several l = column_in (drop l.several-index l.several-items) l.left ≡ column_in (body l.fn.tag) l.place

@@ -1,5 +1,5 @@
 -- The hours that the loop has gone over stand at the front.
-use Prim.Native.Nat.{◌+◌, ◌-◌, ◌≤◌}
+use Prim.Native.Nat.{◌+◌}
 use Rattle.columns.specs.Column.{col}
 use Rattle.columns.proofs.Lists.{Filling}
 use Rattle.daymeters.specs.Meter.{meter_at, hours_at}
@@ -7,7 +7,4 @@ use Rattle.daymeters.proofs.hours.fill_delivered.Given as goal
 
 abbrev pub invariant-loop-hour : goal.invariant-loop-hour
 invariant-loop-hour l =
-    Filling l.initial.out (λ i. meter_at l.counts (col l.numbers) l.row (hours_at + i)) l.hour l.out × (l.hour ≤ 35)
-
-abbrev pub decreases-loop-hour : goal.decreases-loop-hour
-decreases-loop-hour l = 35 - l.hour
+    Filling l.initial.out (λ i. meter_at l.counts (col l.numbers) l.row (hours_at + i)) l.hour l.out

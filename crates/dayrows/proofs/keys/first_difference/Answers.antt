@@ -1,25 +1,22 @@
+-- The iterator looks for the first place in which they differ.
+use mathlib.Core.Path.{◌∙◌}
+use mathlib.Core.Bool.{not}
+use borrow.Author.Tests.{tests}
+use Prim.Native.Nat.{ℕ, ◌+◌}
 use native.Mathlib.Omega.{arith}
-use borrow.Author.Tests.{eq-eqb, ne_eqb}
-use Rattle.columns.proofs.Firsts.{searched_none, searched_more, stops, ends}
+use lib.Dec.{eqb}
+use Rattle.std.proofs.Common.{rules}
+use Rattle.columns.specs.Column.{col}
+use Rattle.columns.proofs.Firsts.{first_le}
 use Rattle.dayrows.specs.Test.{difference}
+use Rattle.dayrows.proofs.Searches.{find-first}
 use Rattle.dayrows.proofs.keys.first_difference.Goals as goal
-
-pub loop-place-init : goal.loop-place-init
-loop-place-init c = searched_none _ _
-
-pub returns-then-number_of : goal.returns-then-number_of
-unfolding difference
-returns-then-number_of c = (
-  stops _ _ _ c.loop-place.invariant c.loop-place-test.true
-      (rw (← c.number_of.ensures, ← c.number_of-in-loop-place.ensures, ne_eqb _ _ c.if-number_of.true)),
-  omega arith,
-)
-
-pub loop-place-preserved : goal.loop-place-preserved
-loop-place-preserved c =
-    searched_more _ _ _ c.loop-place.invariant c.loop-place-test.true
-    (rw (← c.number_of.ensures, ← c.number_of-in-loop-place.ensures, eq-eqb _ _ c.if-number_of.false))
 
 pub returns : goal.returns
 unfolding difference
-returns c = (ends _ _ _ c.loop-place.invariant c.loop-place-test.false, c.loop-place.invariant.inside)
+returns c =
+    let numbers = col c.args.numbers.now in
+    let differ = λ (place : ℕ). not (eqb (numbers (c.args.one + place)) (numbers (c.args.other + place))) in
+    let found =
+    c.unwrap_or.ensures ∙ find-first differ _ _ _ c.find.result c.find.ensures.ran (λ x b q k. search (rules, tests)) in
+    (found, omega (arith, found, first_le differ c.args.many))

@@ -1,10 +1,9 @@
 use native.Mathlib.Omega.{arith}
 use Rattle.columns.proofs.Lists.{filling_none, filling_next, filling_all}
-use Rattle.dayvalues.specs.Row.{number_at}
 use Rattle.dayvalues.proofs.column.fill_column.Goals as goal
 
 pub loop-row-init : goal.loop-row-init
-loop-row-init c = (filling_none _ _, omega arith)
+loop-row-init c = filling_none _ _
 
 pub overflow_cast-out : goal.overflow_cast-out
 overflow_cast-out c =
@@ -12,10 +11,10 @@ overflow_cast-out c =
 
 pub loop-row-preserved : goal.loop-row-preserved
 loop-row-preserved c =
-    (filling_next _ _ _ _ _ c.loop-row.invariant.0 c.number_at.ensures, omega (arith, c.loop-row-test.true))
+    filling_next _ _ _ _ _ c.loop-row.invariant c.number_at.ensures
 
 pub shape_of-out : goal.shape_of-out
-shape_of-out c = c.loop-row.invariant.0.long
+shape_of-out c = c.loop-row.invariant.long
 
 pub returns : goal.returns
-returns c = filling_all _ _ _ _ _ c.loop-row.invariant.0 c.loop-row.invariant.1 c.loop-row-test.false
+returns c = filling_all _ _ _ _ _ c.loop-row.invariant (omega (arith, c.loop-row.auto.row-end)) c.loop-row-test.false

@@ -1,5 +1,4 @@
 -- The rows that the loop has gone over stand at the front.
-use Prim.Native.Nat.{◌-◌, ◌≤◌}
 use Rattle.columns.specs.Column.{col}
 use Rattle.columns.proofs.Lists.{Filling}
 use Rattle.dayformat.specs.declared.form.Tag.TheVariants.{Shipper}
@@ -8,7 +7,4 @@ use Rattle.dayvalues.proofs.column.fill_column.Given as goal
 
 abbrev pub invariant-loop-row : goal.invariant-loop-row
 invariant-loop-row l =
-    Filling l.initial.out (λ i. number_at l.counts (col l.numbers) Shipper i l.place) l.row l.out × (l.row ≤ l.counts.shippers)
-
-abbrev pub decreases-loop-row : goal.decreases-loop-row
-decreases-loop-row l = l.rows - l.row
+    Filling l.initial.out (λ i. number_at l.counts (col l.numbers) Shipper i l.place) l.row l.out

@@ -1,17 +1,16 @@
-use mathlib.Core.Path.{sym, ◌∙◌}
-use Rattle.columns.proofs.Firsts.{searched_none, searched_more, stops, ends}
+-- The iterator looks for the first row that is beyond its bounds.
+use mathlib.Core.Path.{◌∙◌}
+use borrow.Author.Tests.{tests}
+use Prim.Native.Nat.{ℕ}
+use Rattle.std.proofs.Common.{rules}
+use Rattle.columns.specs.Column.{col}
+use Rattle.dayformat.specs.declared.form.Tag.TheVariants.{Shipper}
+use Rattle.dayrows.proofs.Searches.{find-first}
+use Rattle.dayvalues.specs.Row.{beyond}
 use Rattle.dayvalues.proofs.column.first_beyond.Goals as goal
 
-pub loop-row-init : goal.loop-row-init
-loop-row-init c = searched_none _ _
-
-pub returns-then-is_beyond : goal.returns-then-is_beyond
-returns-then-is_beyond c =
-    stops _ _ _ c.loop-row.invariant c.loop-row-test.true (sym c.is_beyond.ensures ∙ c.if-is_beyond.true)
-
-pub loop-row-preserved : goal.loop-row-preserved
-loop-row-preserved c =
-    searched_more _ _ _ c.loop-row.invariant c.loop-row-test.true (sym c.is_beyond.ensures ∙ c.if-is_beyond.false)
-
 pub returns : goal.returns
-returns c = ends _ _ _ c.loop-row.invariant c.loop-row-test.false
+returns c =
+    let args = c.args in
+    let is = λ (row : ℕ). beyond args.counts (col args.numbers.now) Shipper row args.place in
+    c.unwrap_or.ensures ∙ find-first is _ _ _ c.find.result c.find.ensures.ran (λ x b q k. search (rules, tests))

@@ -1,21 +1,19 @@
-use mathlib.Core.Path.{sym, ◌∙◌}
-use borrow.Author.Tests.{eq-eqb, ne_eqb}
-use Rattle.columns.proofs.Firsts.{searched_none, searched_more, stops, ends}
+-- The iterator looks for the first row that begins with the number.
+use mathlib.Core.Path.{ap, ◌∙◌}
+use borrow.Author.Tests.{tests}
+use Prim.Native.Nat.{ℕ}
+use lib.Dec.{eqb}
+use Rattle.std.proofs.Common.{rules}
+use Rattle.columns.specs.Column.{col}
+use Rattle.columns.specs.First.{first}
+use Rattle.dayrows.proofs.Searches.{find-first}
 use Rattle.dayvalues.specs.Row.{number_at}
 use Rattle.dayvalues.proofs.row.row_beginning.Goals as goal
 
-pub loop-row-init : goal.loop-row-init
-loop-row-init c = searched_none _ _
-
-pub returns-then-number_at-number : goal.returns-then-number_at-number
-returns-then-number_at-number c =
-    rw (← c.count_of-rows.ensures)
-    (stops _ _ _ c.loop-row.invariant c.loop-row-test.true (eq-eqb _ _ (sym c.number_at.ensures ∙ c.if-number_at-number.true)))
-
-pub loop-row-preserved : goal.loop-row-preserved
-loop-row-preserved c =
-    searched_more _ _ _ c.loop-row.invariant c.loop-row-test.true
-    (ne_eqb _ _ (λ same. c.if-number_at-number.false (c.number_at.ensures ∙ same)))
-
 pub returns : goal.returns
-returns c = rw (← c.count_of-rows.ensures) (ends _ _ _ c.loop-row.invariant c.loop-row-test.false)
+returns c =
+    let args = c.args in
+    let begins = λ (row : ℕ). eqb (number_at args.counts (col args.numbers.now) args.tag row 0) args.number in
+    c.unwrap_or.ensures
+    ∙ find-first begins _ _ _ c.find.result c.find.ensures.ran (λ x b q k. search (rules, tests))
+    ∙ ap (λ n. first n begins) c.count_of-rows.ensures

@@ -8,19 +8,19 @@ use Rattle.daywriter.proofs.put.put_body.Goals as goal
 pub loop-place-init : goal.loop-place-init
 loop-place-init c =
     let args = c.args in
-    (lays-none (col args.numbers.now) args.tag args.from args.block.now args.at, omega arith, omega arith)
+    (lays-none (col args.numbers.now) args.tag args.from args.block.now args.at, omega arith)
 
 pub overflow_add-from : goal.overflow_add-from
 overflow_add-from c =
-    omega (arith, c.requires.0, rw c.form_of-columns.ensures at c.loop-place-test.true, (small c.args.tag).columns)
+    omega (arith, c.requires.0, rw c.form_of-place-end.ensures at c.loop-place-test.true, (small c.args.tag).columns)
 
 pub overflow_add-byte : goal.overflow_add-byte
 overflow_add-byte c =
     omega (
       arith,
       c.requires.1,
-      c.loop-place.invariant.2,
-      rw c.form_of-columns.ensures at c.loop-place-test.true,
+      c.loop-place.invariant.1,
+      rw c.form_of-place-end.ensures at c.loop-place-test.true,
       (small c.args.tag).columns,
       narrow c.args.tag c.loop-place.place,
       ap (λ c. c.width) c.column_at-width.ensures,
@@ -30,10 +30,9 @@ pub loop-place-preserved : goal.loop-place-preserved
 loop-place-preserved c =
     let args = c.args in (
       lays-next (col args.numbers.now) args.tag args.from args.block.now args.at c.loop-place.place c.loop-place.byte
-          c.loop-place.invariant.0 (rw c.form_of-columns.ensures at c.loop-place-test.true) c.column_at-width.ensures
+          c.loop-place.invariant.0 (rw c.form_of-place-end.ensures at c.loop-place-test.true) c.column_at-width.ensures
           c.number_of-number.ensures c.put_number.ensures,
-      omega (arith, c.loop-place-test.true),
-      omega (arith, c.loop-place.invariant.2, narrow args.tag c.loop-place.place, ap (λ c. c.width) c.column_at-width.ensures),
+      omega (arith, c.loop-place.invariant.1, narrow args.tag c.loop-place.place, ap (λ c. c.width) c.column_at-width.ensures),
     )
 
 pub shape_of-block : goal.shape_of-block
@@ -43,4 +42,4 @@ pub returns : goal.returns
 returns c =
     let args = c.args in
     lays_all (col args.numbers.now) args.tag args.from args.block.now args.at c.loop-place.place c.loop-place.byte
-    c.loop-place.invariant.0 (rw c.form_of-columns.ensures at c.loop-place-test.false)
+    c.loop-place.invariant.0 (rw c.form_of-place-end.ensures at c.loop-place-test.false)

@@ -13,13 +13,13 @@ overflow_add-size c =
     omega (arith, ap (λ form. form.size) c.form_of-size.ensures, (small c.args.tag).size)
 
 pub loop-row-init : goal.loop-row-init
-loop-row-init c = (fielding_none _ _ _ _ _, omega arith)
+loop-row-init c = fielding_none _ _ _ _ _
 
 pub put_field-requires : goal.put_field-requires
 put_field-requires c =
     let passed : c.loop-row.row * field_size c.args.tag < 2 ^ 41 =
     fields-small c.args.tag c.loop-row.row (omega (arith, c.loop-row-test.true)) in
-    (c.row_place.ensures.1, omega (arith, passed, c.loop-row.invariant.0.ends, c.requires))
+    (c.row_place.ensures.1, omega (arith, passed, c.loop-row.invariant.ends, c.requires))
 
 pub overflow_add-byte : goal.overflow_add-byte
 overflow_add-byte c =
@@ -28,24 +28,22 @@ overflow_add-byte c =
     omega (
       arith,
       passed,
-      c.loop-row.invariant.0.ends,
+      c.loop-row.invariant.ends,
       c.requires,
       ap (λ form. form.size) c.form_of-size.ensures,
       (small c.args.tag).size,
     )
 
 pub loop-row-preserved : goal.loop-row-preserved
-loop-row-preserved c = (
-  fielding_next _ _ _ _ _ _ _ c.loop-row.invariant.0 c.form_of-size.ensures c.row_place.ensures.0 c.put_field.ensures,
-  omega (arith, c.loop-row-test.true),
-)
+loop-row-preserved c =
+    fielding_next _ _ _ _ _ _ _ c.loop-row.invariant c.form_of-size.ensures c.row_place.ensures.0 c.put_field.ensures
 
 pub shape_of-block : goal.shape_of-block
-shape_of-block c = fielding_long _ _ _ _ _ _ _ c.loop-row.invariant.0
+shape_of-block c = fielding_long _ _ _ _ _ _ _ c.loop-row.invariant
 
 pub returns : goal.returns
 returns c =
-    let all = le_antisymm c.loop-row.invariant.1 c.loop-row-test.false ∙ c.count_of-rows.ensures in
-    let laid = fielding_all _ _ _ _ _ _ _ c.loop-row.invariant.0 all in
-    let few = fields-small c.args.tag c.loop-row.row (omega (arith, c.loop-row.invariant.1, c.count_of-rows.type_inv)) in
-    (laid.0, laid.1, omega (arith, few, c.loop-row.invariant.0.ends))
+    let all = le_antisymm c.loop-row.auto.row-end c.loop-row-test.false ∙ c.count_of-row-end.ensures in
+    let laid = fielding_all _ _ _ _ _ _ _ c.loop-row.invariant all in
+    let few = fields-small c.args.tag c.loop-row.row (omega (arith, c.loop-row.auto.row-end, c.count_of-row-end.type_inv)) in
+    (laid.0, laid.1, omega (arith, few, c.loop-row.invariant.ends))

@@ -1,12 +1,8 @@
 -- The fields of the rows below `row` are laid, up to `byte`.
-use Prim.Native.Nat.{◌-◌, ◌≤◌}
 use Rattle.columns.specs.Column.{col}
 use Rattle.daywriter.proofs.FieldLaying.{Fielding}
 use Rattle.daywriter.proofs.put.put_fields.Given as goal
 
 abbrev pub invariant-loop-row : goal.invariant-loop-row
 invariant-loop-row l =
-    Fielding l.counts (col l.numbers) l.tag l.initial.block l.at l.row l.block l.byte × (l.row ≤ l.rows)
-
-abbrev pub decreases-loop-row : goal.decreases-loop-row
-decreases-loop-row l = l.rows - l.row
+    Fielding l.counts (col l.numbers) l.tag l.initial.block l.at l.row l.block l.byte

@@ -1,13 +1,9 @@
 -- The fields of the tables before `place` are laid behind the head's, up to `at`.
-use Prim.Native.Nat.{◌+◌, ◌-◌, ◌*◌, ◌^◌, ◌≤◌}
+use Prim.Native.Nat.{◌+◌, ◌*◌, ◌^◌, ◌≤◌}
 use Rattle.columns.specs.Column.{col}
-use Rattle.dayformat.specs.Format.{many_tables}
 use Rattle.daywriter.proofs.FieldLaying.{Tabling}
 use Rattle.daywriter.proofs.put.put_tables.Given as goal
 
 abbrev pub invariant-loop-place : goal.invariant-loop-place
 invariant-loop-place l =
-    Tabling l.counts (col l.numbers) l.initial.block 15 l.place l.block l.at × (l.place ≤ many_tables) × (l.at ≤ 15 + l.place * 2 ^ 41)
-
-abbrev pub decreases-loop-place : goal.decreases-loop-place
-decreases-loop-place l = many_tables - l.place
+    Tabling l.counts (col l.numbers) l.initial.block 15 l.place l.block l.at × (l.at ≤ 15 + l.place * 2 ^ 41)
