@@ -6,8 +6,7 @@ ghost use Rattle.units.specs.declared.refusal.Check.TheVariants.{Accepted};
 ghost use Rattle.pointhours.specs.HourText.{share_lines};
 ghost use Rattle.pointhours.specs.Parts.{entries_in, shipper_in, most_entries, part_lines};
 
-use crate::entries::{MOST_ENTRIES, entitlements_in, entries_in, mdqs_in, shipper_in};
-use columns::lesser;
+use crate::entries::{MOST_ENTRIES, entries_in, read_entries, shipper_in};
 use dayformat::Counts;
 use lines::{put_line, put_refusal};
 use pointshares::{Hour, share_hour};
@@ -21,12 +20,10 @@ fn put_shares(part: &[u8], shares: &[u64], text: &mut [u8], at: usize) -> usize
         text.old at result text.new) × (result ≤ 2 ^ 20) }
 {
     let many = entries_in(part);
-    let mut entry = 0;
     let mut size = 0;
-    while entry < many {
+    for entry in 0..many {
         let figures = [shipper_in(part, entry) as u64, shares[entry]];
         size += put_line(&figures, text, at + size);
-        entry += 1;
     }
     size
 }
@@ -44,12 +41,16 @@ pub fn put_hour(
         text.old at result text.new) × (result ≤ 2 ^ 20) }
 {
     let many = entries_in(part);
-    let entitlements = entitlements_in(part);
-    let mdqs = mdqs_in(counts, numbers, part);
+    let entries = read_entries(counts, numbers, part);
     let mut shares = [0u64; MOST_ENTRIES];
-    let hour = share_hour(capacity, &entitlements[..many], &mdqs[..many], &mut shares);
+    let hour = share_hour(
+        capacity,
+        &entries.entitlements[..many],
+        &entries.mdqs[..many],
+        &mut shares,
+    );
     match hour {
         Hour::Refused(refusal) => put_refusal(refusal, text, at),
-        Hour::Shared(_) => put_shares(part, &shares, text, lesser(at, text.len())),
+        Hour::Shared(_) => put_shares(part, &shares, text, at.min(text.len())),
     }
 }
