@@ -24,13 +24,10 @@ fn put_meters(rate: Rate, counts: Counts, numbers: &[usize], text: &mut [u8], at
     ensures { (Laid (meter_lines rate counts numbers.now counts.meters) text.old at result text.new)
         × (result ≤ 131072) }
 {
-    let rows = counts.meters;
-    let mut row = 0;
     let mut size = 0;
-    while row < rows {
+    for row in 0..counts.meters {
         let figures = charge_figures(rate, counts, numbers, row);
         size += put_line(&figures, text, at + size);
-        row += 1;
     }
     size
 }

@@ -52,20 +52,10 @@ fn head_of(file: &[u8]) -> Head
     }
 }
 
-// A part to the front of a block.
-fn copy_part(part: &[usize], lent: &mut [usize])
-    requires { length part.now ≤ length lent.old }
-    ensures { lent.new ≡ sets lent.old 0 (listed (length part.now) (col part.now)) }
-{
-    for place in 0..part.len() {
-        lent[place] = part[place];
-    }
-}
-
-// The first of the numbers to the front of a block, which are there, so that no end is looked for.
+// The first of the numbers to the front of a block.
 fn copy_numbers(numbers: &[usize], count: usize, lent: &mut [usize])
     requires { (count ≤ length numbers.now) × (count ≤ length lent.old) }
     ensures { lent.new ≡ sets lent.old 0 (listed count (col numbers.now)) }
 {
-    copy_part(&numbers[..count], lent);
+    lent[..count].copy_from_slice(&numbers[..count]);
 }

@@ -51,10 +51,8 @@ pub fn walk_file(file: &[u8], numbers: &mut [usize]) -> Walk
     ensures { Walked file.now numbers.new result }
 {
     let mut walk = begin(file);
-    let mut place = 0;
-    while place < TABLES {
+    for place in 0..TABLES {
         walk = walk_table(walk, file, tag_at(place), numbers);
-        place += 1;
     }
     walk.end(file)
 }

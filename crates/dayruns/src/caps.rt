@@ -6,7 +6,8 @@ ghost use Rattle.dayruns.specs.Private.{CapsInside, under_cap};
 
 use dayformat::{Counts, Tag, cap_of, form_of, row_place};
 
-// Whether none of so many numbers from one place on is above that from another on. All are looked at, and so several at once.
+// Whether none of so many numbers from one place on is above that from another on. All are looked at, and so several at once: a loop
+// that stops at the first, as `all` does, is not made of vectors (docs/SPEED.md).
 fn are_under(numbers: &[usize], many: usize, one: usize, other: usize) -> bool
     requires { (one + many ≤ length numbers.now) × (other + many ≤ length numbers.now) }
     ensures { result ≡ true → all_under (col numbers.now) many one other ≡ true }

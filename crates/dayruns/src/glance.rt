@@ -16,6 +16,7 @@ pub struct Glance {
     pub near: Near,
 }
 
+// An entry's, apart from that of all tags: tried for entries, that one is 1.3 times slower over a full file, since nothing is a constant.
 fn glance_at_entry(
     counts: Counts,
     file: &[u8],

@@ -12,14 +12,12 @@ fn is_less(numbers: &[usize], key: usize, one: usize, other: usize) -> bool
     requires { (one + key ≤ length numbers.now) × (other + key ≤ length numbers.now) }
     ensures { result ≡ less (col numbers.now) key one other }
 {
-    let mut place = 0;
-    while place < key {
+    for place in 0..key {
         let here = numbers[one + place];
         let there = numbers[other + place];
         if here != there {
             return here < there;
         }
-        place += 1;
     }
     false
 }

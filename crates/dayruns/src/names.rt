@@ -20,22 +20,20 @@ pub const NOWHERE: Near = Near {
     second: 0,
 };
 
-// The first shipper's row, from one on, that has a name, or a row past the last.
+// The first shipper's row, from one on, that has a name, or how many rows there are.
 fn shipper_from(numbers: &[usize], rows: usize, from: usize, name: usize) -> usize
     requires { rows * 6 ≤ length numbers.now }
     ensures { result < rows → col numbers.now (result * 6) ≡ name }
 {
-    let mut row = from;
-    while row < rows {
+    for row in from..rows {
         if numbers[row * SHIPPER_COLUMNS] == name {
             return row;
         }
-        row += 1;
     }
-    row
+    rows
 }
 
-// The first point's row, from one on, that has a side and a name, or a row past the last.
+// The first point's row, from one on, that has a side and a name, or how many rows there are.
 fn point_from(
     numbers: &[usize],
     start: usize,
@@ -49,17 +47,15 @@ fn point_from(
         (col numbers.now (start + result * 3) ≡ side)
         × (col numbers.now (start + result * 3 + 1) ≡ name) }
 {
-    let mut row = from;
-    while row < rows {
+    for row in from..rows {
         let at = start + row * POINT_COLUMNS;
         if numbers[at + 1] == name {
             if numbers[at] == side {
                 return row;
             }
         }
-        row += 1;
     }
-    row
+    rows
 }
 
 // The shippers of another point begin anew.
@@ -95,22 +91,7 @@ pub fn near_entry(counts: Counts, numbers: &[usize], at: usize, near: Near) -> N
     }
 }
 
-// Whether the keys at two places are the same.
-fn is_same(numbers: &[usize], key: usize, one: usize, other: usize) -> bool
-    requires { (one + key ≤ length numbers.now) × (other + key ≤ length numbers.now) }
-    ensures { result ≡ true → Same (col numbers.now) key one other }
-{
-    let mut place = 0;
-    while place < key {
-        if numbers[one + place] != numbers[other + place] {
-            return false;
-        }
-        place += 1;
-    }
-    true
-}
-
-// The first row of a table, from one on, that has the key at a place, or a row past the last.
+// The first row of a table, from one on, that has the key at a place, or how many rows there are.
 pub fn row_keyed_from(counts: Counts, numbers: &[usize], tag: Tag, at: usize, from: usize) -> usize
     requires { KeysInside counts tag at numbers.now }
     ensures { result < count counts tag → keyed counts (col numbers.now) tag at result ≡ true }
@@ -118,12 +99,12 @@ pub fn row_keyed_from(counts: Counts, numbers: &[usize], tag: Tag, at: usize, fr
     let form = form_of(tag);
     let start = row_place(counts, tag, 0);
     let rows = count_of(counts, tag) as usize;
-    let mut row = from;
-    while row < rows {
-        if is_same(numbers, form.key, start + row * form.columns, at) {
+    let key = &numbers[at..at + form.key];
+    for row in from..rows {
+        let here = start + row * form.columns;
+        if &numbers[here..here + form.key] == key {
             return row;
         }
-        row += 1;
     }
-    row
+    rows
 }

@@ -27,12 +27,10 @@ pub fn first_delivery(entries: &[u8]) -> usize
     ensures { result ≡ first_delivery entries.now }
 {
     let rows = entries.len() / ENTRY_FIELD;
-    let mut row = 0;
-    while row < rows {
+    for row in 0..rows {
         if entries[row * ENTRY_FIELD + HEADER] == 1 {
             return row * ENTRY_FIELD;
         }
-        row += 1;
     }
-    row * ENTRY_FIELD
+    rows * ENTRY_FIELD
 }

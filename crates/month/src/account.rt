@@ -1,8 +1,9 @@
 // The account of a month, by value: each method takes it and hands it back.
 ghost use Rattle.std.specs.Prelude.{◌≡◌};
+ghost use Rattle.units.specs.declared.refusal.Check.TheVariants.{Accepted};
 ghost use Rattle.lines.specs.Answer.{ListingAnswered};
 ghost use Rattle.month.specs.Account.{no_days, account_check, take_in};
-ghost use Rattle.month.specs.Total.{total_up};
+ghost use Rattle.month.specs.Total.{account_sums, total_up};
 ghost use Rattle.month.specs.Statement.{statement, ClosingAnswered};
 
 use crate::examine::{examine_account, examine_next};
@@ -85,8 +86,8 @@ impl Account {
         }
     }
 
-    // Totals up: from the last day to the first each is taken off and added. The account comes back as it was.
-    pub fn total_up(mut self) -> Totalled
+    // Totals up. The account comes back as it was.
+    pub fn total_up(self) -> Totalled
         ensures { result ≡ total_up self }
     {
         let account = self;
@@ -96,16 +97,9 @@ impl Account {
                 total: Err(refusal),
             };
         }
-        let mut sums = NO_FIGURES;
-        while 0 < self.count {
-            let last = self.count - 1;
-            let day = self.days[last];
-            sums = plus(sums, day.figures);
-            self.count = last;
-        }
         Totalled {
             account,
-            total: Ok(sums),
+            total: Ok(sum_up(account)),
         }
     }
 
@@ -133,4 +127,16 @@ fn list_account(account: Account, lent: &mut [u8]) -> Result<usize, Refusal>
 {
     let sums = account.total_up().total?;
     list_statement(account, sums, lent)
+}
+
+// The sums over a sound account's days.
+fn sum_up(account: Account) -> Figures
+    requires { account_check account ≡ Ok tt }
+    ensures { result ≡ account_sums account }
+{
+    let mut sums = NO_FIGURES;
+    for day in &account.days[..account.count] {
+        sums = plus(sums, day.figures);
+    }
+    sums
 }

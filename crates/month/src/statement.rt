@@ -44,11 +44,9 @@ fn put_days(account: Account, text: &mut [u8], at: usize) -> usize
     ensures { (Laid (statement_lines account.count (day_at account)) text.old at result text.new)
         × (result ≤ 65536) }
 {
-    let mut row = 0;
     let mut size = 0;
-    while row < account.count {
-        size += put_day(account.days[row], text, at + size);
-        row += 1;
+    for day in &account.days[..account.count] {
+        size += put_day(*day, text, at + size);
     }
     size
 }

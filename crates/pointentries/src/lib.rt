@@ -74,14 +74,12 @@ fn first_entry(numbers: &[usize], rows: usize, point: u16) -> usize
     requires { rows ≤ 512 }
     ensures { (result ≡ first rows (λ row. eqb (col numbers.now (row * 4 + 1)) point)) × (result ≤ rows) }
 {
-    let mut row = 0;
-    while row < rows {
+    for row in 0..rows {
         if is_of(numbers, row, point) {
             return row;
         }
-        row += 1;
     }
-    row
+    rows
 }
 
 // How many rows from a row on are the point's.
@@ -90,14 +88,13 @@ fn many_entries(numbers: &[usize], rows: usize, point: u16, from: usize) -> usiz
     ensures { (result ≡ first (rows - from) (λ more. not (eqb (col numbers.now ((from + more) * 4 + 1)) point)))
         × (from + result ≤ rows) }
 {
-    let mut more = 0;
-    while from + more < rows {
+    let left = rows - from;
+    for more in 0..left {
         if !is_of(numbers, from + more, point) {
             return more;
         }
-        more += 1;
     }
-    more
+    left
 }
 
 // The run of the point's entries in a list of one side.

@@ -6,7 +6,6 @@ ghost use Rattle.pointhours.specs.Parts.{most_entries, most_number, entries_in, 
 ghost use Rattle.pointhours.specs.Private.{with_zeros};
 
 use bigendian::number_at;
-use columns::lesser;
 use dayformat::{Counts, ENTRY_FIELD, HEADER, HOUR, NAME, SIDE, Tag};
 
 // How many entries a file has at most.
@@ -17,14 +16,11 @@ const SHIPPER_PLACE: usize = HEADER + SIDE.width + NAME.width;
 
 const ENTITLEMENT_PLACE: usize = SHIPPER_PLACE + NAME.width;
 
-// The greatest u32.
-const MOST_NUMBER: usize = 4_294_967_295;
-
 // How many entries a part has, of a longer run as many as a file can have.
 pub fn entries_in(part: &[u8]) -> usize
     ensures { (result ≡ entries_in part.now) × (result ≤ most_entries) }
 {
-    lesser(part.len() / ENTRY_FIELD, MOST_ENTRIES)
+    (part.len() / ENTRY_FIELD).min(MOST_ENTRIES)
 }
 
 // The shipper of an entry.
@@ -49,29 +45,26 @@ fn firm_mdq(counts: Counts, numbers: &[usize], shipper: u32) -> u32
 {
     let row = dayvalues::row_beginning(counts, numbers, Tag::Shipper, shipper);
     let mdq = dayvalues::number_at(counts, numbers, Tag::Shipper, row, 1);
-    lesser(mdq, MOST_NUMBER) as u32
+    u32::try_from(mdq).unwrap_or(u32::MAX)
 }
 
-// The reserved entitlements of a point's entries, zeros past them.
-pub fn entitlements_in(part: &[u8]) -> [u64; 512]
-    ensures { result ≡ with_zeros (entries_in part.now) (entitlement_in part.now) }
+// The reserved entitlements of a point's entries and the firm MDQs of their shippers, zeros past them.
+#[derive(Clone, Copy)]
+pub struct Entries {
+    pub entitlements: [u64; MOST_ENTRIES],
+    pub mdqs: [u32; MOST_ENTRIES],
+}
+
+pub fn read_entries(counts: Counts, numbers: &[usize], part: &[u8]) -> Entries
+    ensures { (result.entitlements ≡ with_zeros (entries_in part.now) (entitlement_in part.now))
+        × (result.mdqs ≡ with_zeros (entries_in part.now) (mdq_in counts (col numbers.now) part.now)) }
 {
     let many = entries_in(part);
     let mut entitlements = [0u64; MOST_ENTRIES];
-    for entry in 0..many {
-        entitlements[entry] = entitlement_in(part, entry) as u64;
-    }
-    entitlements
-}
-
-// The firm MDQs of their shippers, zeros past them.
-pub fn mdqs_in(counts: Counts, numbers: &[usize], part: &[u8]) -> [u32; 512]
-    ensures { result ≡ with_zeros (entries_in part.now) (mdq_in counts (col numbers.now) part.now) }
-{
-    let many = entries_in(part);
     let mut mdqs = [0u32; MOST_ENTRIES];
     for entry in 0..many {
+        entitlements[entry] = entitlement_in(part, entry) as u64;
         mdqs[entry] = firm_mdq(counts, numbers, shipper_in(part, entry));
     }
-    mdqs
+    Entries { entitlements, mdqs }
 }

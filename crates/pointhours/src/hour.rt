@@ -5,8 +5,7 @@ ghost use Rattle.text.specs.Text.{Laid};
 ghost use Rattle.pointhours.specs.HourText.{share_lines};
 ghost use Rattle.pointhours.specs.Parts.{entries_in, shipper_in, most_entries, part_lines};
 
-use crate::entries::{MOST_ENTRIES, entitlements_in, entries_in, mdqs_in, shipper_in};
-use columns::lesser;
+use crate::entries::{MOST_ENTRIES, entries_in, read_entries, shipper_in};
 use dayformat::Counts;
 use lines::{put_line, put_refusal};
 use pointshares::share_hour;
@@ -20,12 +19,10 @@ fn put_shares(part: &[u8], shares: &[u64], text: &mut [u8], at: usize) -> usize
         text.old at result text.new) × (result ≤ 2 ^ 20) }
 {
     let many = entries_in(part);
-    let mut entry = 0;
     let mut size = 0;
-    while entry < many {
+    for entry in 0..many {
         let figures = [shipper_in(part, entry) as u64, shares[entry]];
         size += put_line(&figures, text, at + size);
-        entry += 1;
     }
     size
 }
@@ -43,11 +40,16 @@ pub fn put_hour(
         text.old at result text.new) × (result ≤ 2 ^ 20) }
 {
     let many = entries_in(part);
-    let entitlements = entitlements_in(part);
-    let mdqs = mdqs_in(counts, numbers, part);
+    let entries = read_entries(counts, numbers, part);
     let mut shares = [0u64; MOST_ENTRIES];
-    match share_hour(capacity, &entitlements[..many], &mdqs[..many], &mut shares) {
+    let shared = share_hour(
+        capacity,
+        &entries.entitlements[..many],
+        &entries.mdqs[..many],
+        &mut shares,
+    );
+    match shared {
         Err(refusal) => put_refusal(refusal, text, at),
-        Ok(_) => put_shares(part, &shares, text, lesser(at, text.len())),
+        Ok(_) => put_shares(part, &shares, text, at.min(text.len())),
     }
 }

@@ -50,12 +50,9 @@ fn put_each<'a>(
     ensures { (Laid (joined day.counts.points (point_lines day.counts (col numbers.now)))
         text.old at result text.new) × (result ≤ 2 ^ 26) }
 {
-    let rows = day.counts.points;
-    let mut row = 0;
     let mut size = 0;
-    while row < rows {
+    for row in 0..day.counts.points {
         size += put_point(day, numbers, receipt, delivery, row, text, at + size);
-        row += 1;
     }
     size
 }

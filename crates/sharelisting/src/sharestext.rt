@@ -37,10 +37,8 @@ pub fn put_shippers(
         (col firm.now) (col auction.now) (col lower_tier.now))
         text.old at result text.new) × (result ≤ 131072) }
 {
-    let rows = counts.shippers;
-    let mut row = 0;
     let mut size = 0;
-    while row < rows {
+    for row in 0..counts.shippers {
         let figures = [
             number_at(counts, numbers, Tag::Shipper, row, 0) as u64,
             gigajoules_at(firm, row as usize) as u64,
@@ -48,7 +46,6 @@ pub fn put_shippers(
             gigajoules_at(lower_tier, row as usize) as u64,
         ];
         size += put_line(&figures, text, at + size);
-        row += 1;
     }
     size
 }

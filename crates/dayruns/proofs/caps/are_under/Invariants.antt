@@ -1,7 +1,7 @@
 -- While the flag stands, no number that was looked at is above the other.
 use mathlib.Core.Path.{◌≡◌}
 use mathlib.Core.Bool.{true}
-use Prim.Native.Nat.{◌+◌, ◌-◌}
+use Prim.Native.Nat.{◌+◌}
 use lib.Dec.{ltb}
 use Rattle.columns.specs.Column.{col}
 use Rattle.columns.proofs.Firsts.{Searched}
@@ -10,6 +10,3 @@ use Rattle.dayruns.proofs.caps.are_under.Given as goal
 abbrev pub invariant-loop-place : goal.invariant-loop-place
 invariant-loop-place l =
     l.kept ≡ true → Searched (λ i. ltb (col l.numbers (l.other + i)) (col l.numbers (l.one + i))) l.many l.place
-
-abbrev pub decreases-loop-place : goal.decreases-loop-place
-decreases-loop-place l = l.many - l.place

@@ -1,10 +1,6 @@
 -- The numbers from `place` on are still to lay, and those before it are within their bounds where `kept` says so.
-use Prim.Native.Nat.{◌-◌}
 use Rattle.dayruns.proofs.KindReading.{Reading}
 use Rattle.dayruns.proofs.kind.read_kind.Given as goal
 
 abbrev pub invariant-loop-place : goal.invariant-loop-place
 invariant-loop-place l = Reading l.file l.from l.many l.column l.initial.numbers l.place l.numbers l.kept
-
-abbrev pub decreases-loop-place : goal.decreases-loop-place
-decreases-loop-place l = l.many - l.place

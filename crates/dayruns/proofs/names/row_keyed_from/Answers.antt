@@ -1,31 +1,35 @@
+-- Where the stretch that begins at a row is the one at the place, the row has the key.
+use mathlib.Core.Path.{◌≡◌, ap, sym, ◌∙◌}
+use mathlib.Core.Bool.{Bool, true}
+use mathlib.Core.List.{List}
+use Prim.Native.Nat.{ℕ, ◌+◌, ◌-◌, ◌<◌}
 use native.Mathlib.Omega.{arith}
-use Rattle.dayruns.proofs.Finding.{row_inside, row-keyed}
+use lib.Dec.{eqb}
+use lib.ListN.{take, drop}
+use lib.Pointwise.{pointwise}
+use Rattle.std.proofs.lemmas.Bool.Decides.{Decides-eqb}
+use Rattle.std.proofs.lemmas.List.{get_or-take, get_or-drop}
+use Rattle.std.proofs.lemmas.Slice.Eq.{slice_eq-Decides}
+use Rattle.columns.specs.Column.{col}
+use Rattle.dayruns.specs.Private.{Same}
+use Rattle.dayruns.proofs.Finding.{row-keyed}
 use Rattle.dayruns.proofs.names.row_keyed_from.Goals as goal
 
-pub loop-row-init : goal.loop-row-init
-loop-row-init c = tt
+-- two stretches of a list that are equal, number by number
+module _ (numbers : List ℕ) (key one other : ℕ) where
+  abbrev stretch : ℕ → List ℕ
+  stretch from = take (from + key - from) (drop from numbers)
 
-pub overflow_mul-row : goal.overflow_mul-row
-overflow_mul-row c =
-    let l = rw c.count_of-rows.ensures at c.loop-row-test.true in
-    omega (arith, row_inside _ _ _ _ c.loop-row.row c.form_of-form.ensures c.row_place-start.ensures.0 l c.requires)
+  same : {found : Bool} → found ≡ pointwise eqb (stretch one) (stretch other) → found ≡ true → Same (col numbers) key one other
+  same {found} compared equal place l =
+      sym (at one place (omega (arith, l)))
+      ∙ ap (λ list. col list place) ((slice_eq-Decides Decides-eqb (stretch one) (stretch other) found compared).0 equal)
+      ∙ at other place (omega (arith, l))
+    where
+      at : (from place : ℕ) → place < from + key - from → col (stretch from) place ≡ col numbers (from + place)
+      at from place l = get_or-take _ (drop from numbers) place 0 l ∙ get_or-drop from numbers place 0
 
-pub overflow_add-start : goal.overflow_add-start
-overflow_add-start c =
-    let l = rw c.count_of-rows.ensures at c.loop-row-test.true in
-    omega (arith, row_inside _ _ _ _ c.loop-row.row c.form_of-form.ensures c.row_place-start.ensures.0 l c.requires)
-
-pub is_same-requires : goal.is_same-requires
-is_same-requires c =
-    let l = rw c.count_of-rows.ensures at c.loop-row-test.true in
-    row_inside _ _ _ _ c.loop-row.row c.form_of-form.ensures c.row_place-start.ensures.0 l c.requires
-
-pub returns-then-is_same : goal.returns-then-is_same
-returns-then-is_same c = λ l.
-    row-keyed _ _ _ _ c.loop-row.row c.form_of-form.ensures c.row_place-start.ensures.0 l (c.is_same.ensures c.if-is_same.true)
-
-pub loop-row-preserved : goal.loop-row-preserved
-loop-row-preserved c = tt
-
-pub returns : goal.returns
-returns c = λ l. absurd (omega (arith, l, c.loop-row-test.false, c.count_of-rows.ensures))
+pub returns-then-eq : goal.returns-then-eq
+returns-then-eq c = λ l.
+    row-keyed _ _ _ _ c.loop-row.row c.form_of-form.ensures c.row_place-start.ensures.0 l
+    (same c.args.numbers.now _ _ _ c.eq.ensures c.if-eq.true)

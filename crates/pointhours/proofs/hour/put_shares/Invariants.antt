@@ -1,6 +1,6 @@
 -- A line for each entry that the loop has gone over stands from the place on.
 use Rattle.std.specs.Prelude.{Ok}
-use Prim.Native.Nat.{◌-◌, ◌*◌, ◌≤◌}
+use Prim.Native.Nat.{◌*◌, ◌≤◌}
 use Rattle.columns.specs.Column.{col}
 use Rattle.text.specs.Text.{Laid}
 use Rattle.pointhours.specs.HourText.{share_lines}
@@ -9,8 +9,4 @@ use Rattle.pointhours.proofs.hour.put_shares.Given as goal
 
 abbrev pub invariant-loop-entry : goal.invariant-loop-entry
 invariant-loop-entry l =
-    (l.entry ≤ l.many) × (l.size ≤ 2048 * l.entry)
-    × Laid (share_lines (Ok tt) l.entry (shipper_in l.part) (col l.shares)) l.initial.text l.at l.size l.text
-
-abbrev pub decreases-loop-entry : goal.decreases-loop-entry
-decreases-loop-entry l = l.many - l.entry
+    (l.size ≤ 2048 * l.entry) × Laid (share_lines (Ok tt) l.entry (shipper_in l.part) (col l.shares)) l.initial.text l.at l.size l.text

@@ -10,12 +10,12 @@ use Rattle.pointlisting.specs.PointsText.{point_lines}
 use Rattle.pointlisting.proofs.list.put_each.Goals as goal
 
 pub loop-row-init : goal.loop-row-init
-loop-row-init c = (omega arith, omega arith, texts_none _)
+loop-row-init c = (omega arith, texts_none _)
 
 pub overflow_add-at : goal.overflow_add-at
 overflow_add-at c =
     let few : c.args.day.counts.points ≤ 32 = c.requires.0.sound.few Point in
-    omega (arith, c.loop-row.invariant.1, c.loop-row-test.true, few, c.requires.1)
+    omega (arith, c.loop-row.invariant.0, c.loop-row-test.true, few, c.requires.1)
 
 pub put_point-size-requires : goal.put_point-size-requires
 put_point-size-requires c =
@@ -23,32 +23,31 @@ put_point-size-requires c =
     let now = c.loop-row in (
       c.requires.0,
       c.loop-row-test.true,
-      omega (arith, now.invariant.1, c.loop-row-test.true, few, c.requires.1, laid-long now.invariant.2),
+      omega (arith, now.invariant.0, c.loop-row-test.true, few, c.requires.1, laid-long now.invariant.1),
     )
 
 pub overflow_add-size : goal.overflow_add-size
 overflow_add-size c =
     let few : c.args.day.counts.points ≤ 32 = c.requires.0.sound.few Point in
-    omega (arith, c.loop-row.invariant.1, c.loop-row-test.true, few, c.put_point-size.ensures.1)
+    omega (arith, c.loop-row.invariant.0, c.loop-row-test.true, few, c.put_point-size.ensures.1)
 
 pub loop-row-preserved : goal.loop-row-preserved
 loop-row-preserved c =
     let now = c.loop-row in (
-      omega (arith, c.loop-row-test.true),
-      omega (arith, now.invariant.1, c.put_point-size.ensures.1),
-      texts_more _ now.invariant.2 c.put_point-size.ensures.0,
+      omega (arith, now.invariant.0, c.put_point-size.ensures.1),
+      texts_more _ now.invariant.1 c.put_point-size.ensures.0,
     )
 
 pub shape_of-text : goal.shape_of-text
-shape_of-text c = laid-long c.loop-row.invariant.2
+shape_of-text c = laid-long c.loop-row.invariant.1
 
 pub returns : goal.returns
 returns c =
     let few : c.args.day.counts.points ≤ 32 = c.requires.0.sound.few Point in
     let now = c.loop-row in
     let args = c.args in
-    let all : now.row ≡ args.day.counts.points = le_antisymm now.invariant.0 c.loop-row-test.false in (
+    let all : now.row ≡ args.day.counts.points = le_antisymm now.auto.row-end c.loop-row-test.false in (
       subst (λ many. Laid (joined many (point_lines args.day.counts (col args.numbers.now))) args.text.now args.at
-          now.size now.text) all now.invariant.2,
-      omega (arith, now.invariant.1, all, few),
+          now.size now.text) all now.invariant.1,
+      omega (arith, now.invariant.0, all, few),
     )

@@ -1,5 +1,5 @@
 -- The lines of each point that the loop has gone over stand from the place on.
-use Prim.Native.Nat.{◌-◌, ◌*◌, ◌^◌, ◌≤◌}
+use Prim.Native.Nat.{◌*◌, ◌^◌, ◌≤◌}
 use Rattle.columns.specs.Column.{col, joined}
 use Rattle.text.specs.Text.{Laid}
 use Rattle.pointlisting.specs.PointsText.{point_lines}
@@ -7,8 +7,5 @@ use Rattle.pointlisting.proofs.list.put_each.Given as goal
 
 abbrev pub invariant-loop-row : goal.invariant-loop-row
 invariant-loop-row l =
-    (l.row ≤ l.rows) × (l.size ≤ 2 ^ 21 * l.row)
+    (l.size ≤ 2 ^ 21 * l.row)
     × Laid (joined l.row (point_lines l.day.counts (col l.numbers))) l.initial.text l.at l.size l.text
-
-abbrev pub decreases-loop-row : goal.decreases-loop-row
-decreases-loop-row l = l.rows - l.row

@@ -3,14 +3,13 @@ use Rattle.lines.proofs.Texts.{texts_none, texts_more, texts_all, laid-long}
 use Rattle.sharelisting.proofs.sharestext.put_shippers.Goals as goal
 
 pub loop-row-init : goal.loop-row-init
-loop-row-init c = (omega arith, omega arith, texts_none _)
+loop-row-init c = (omega arith, texts_none _)
 
 pub loop-row-preserved : goal.loop-row-preserved
 loop-row-preserved c =
     let now = c.loop-row in (
-      omega (arith, c.loop-row-test.true),
-      omega (arith, now.invariant.1, c.put_line-size.ensures.1),
-      texts_more _ now.invariant.2
+      omega (arith, now.invariant.0, c.put_line-size.ensures.1),
+      texts_more _ now.invariant.1
           (rw (
             ← c.number_at.ensures,
             ← c.gigajoules_at.ensures,
@@ -21,9 +20,9 @@ loop-row-preserved c =
     )
 
 pub shape_of-text : goal.shape_of-text
-shape_of-text c = laid-long c.loop-row.invariant.2
+shape_of-text c = laid-long c.loop-row.invariant.1
 
 pub returns : goal.returns
 returns c =
     let now = c.loop-row in
-    (texts_all _ now.invariant.0 c.loop-row-test.false now.invariant.2, omega (arith, now.invariant.0, now.invariant.1, c.requires.0))
+    (texts_all _ now.auto.row-end c.loop-row-test.false now.invariant.1, omega (arith, now.auto.row-end, now.invariant.0, c.requires.0))

@@ -1,5 +1,5 @@
 -- A line for each row that the loop has gone over stands from the place on.
-use Prim.Native.Nat.{◌-◌, ◌*◌, ◌≤◌}
+use Prim.Native.Nat.{◌*◌, ◌≤◌}
 use Rattle.columns.specs.Column.{col}
 use Rattle.text.specs.Text.{Laid}
 use Rattle.dayvalues.specs.Shippers.{shipper_of}
@@ -8,9 +8,6 @@ use Rattle.sharelisting.proofs.sharestext.put_shippers.Given as goal
 
 abbrev pub invariant-loop-row : goal.invariant-loop-row
 invariant-loop-row l =
-    (l.row ≤ l.rows) × (l.size ≤ 2048 * l.row)
+    (l.size ≤ 2048 * l.row)
     × Laid (shipper_lines l.row (shipper_of l.counts (col l.numbers)) (col l.firm) (col l.auction) (col l.lower_tier))
     l.initial.text l.at l.size l.text
-
-abbrev pub decreases-loop-row : goal.decreases-loop-row
-decreases-loop-row l = l.rows - l.row

@@ -1,0 +1,11 @@
+-- The entries that the loop has gone over stand at the front of both lists.
+use lib.ListN.{replicate}
+use Rattle.columns.specs.Column.{col}
+use Rattle.columns.proofs.Lists.{Filling}
+use Rattle.pointhours.specs.Parts.{most_entries, entitlement_in, mdq_in}
+use Rattle.pointhours.proofs.entries.read_entries.Given as goal
+
+abbrev pub invariant-loop-entry : goal.invariant-loop-entry
+invariant-loop-entry l =
+    Filling (replicate most_entries 0) (entitlement_in l.part) l.entry l.entitlements
+    × Filling (replicate most_entries 0) (mdq_in l.counts (col l.numbers) l.part) l.entry l.mdqs
