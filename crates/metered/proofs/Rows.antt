@@ -1,6 +1,6 @@
 -- The figures of a row, one by one and together, and yesterday's hours followed by today's.
 use mathlib.Core.Path.{◌≡◌, ap, sym, ◌∙◌}
-use mathlib.Core.List.{List, [], ◌++◌, append-nil}
+use mathlib.Core.List.{List, [], ◌++◌, map, append-nil}
 use Prim.Native.Nat.{ℕ}
 use native.Mathlib.Omega.{arith}
 use denote.Param.Members.{Mut}
@@ -37,12 +37,12 @@ days-copied yesterday today begun first second room eleven e f =
     rw (e, f, take_at yesterday begun 11 eleven, drop_at yesterday begun 11 eleven, behind)
     (ap (λ l. yesterday ++ l) (append-nil today))
 
--- a row's hours made numbers one by one
-pub figures-made : {F : Type 0} {g : Mut F (Megajoules × Unit {0}) ℕ} {f : F} (row : List Megajoules) (numbers : List ℕ) (n : ℕ)
-    → length row ≡ n → IsMapOf g f row numbers n
-    → ((p q : F) (x : Megajoules) (y : ℕ) → Called g p (x, tt) y q → y ≡ x.0) → numbers ≡ bare_hours row
-figures-made row numbers n long M each =
-    ext_get_or 0 numbers (bare_hours row) (M.long ∙ sym (length-figures row ∙ long))
-    (λ hour l.
-    let made = M.at hour (record { 0 = 0 }) 0 (omega (arith, M.long)) in
-    each made.0 made.1 _ _ made.2 ∙ figure_at row hour)
+-- items made numbers one by one
+pub numbers-made : {F X : Type 0} {g : Mut F (X × Unit {0}) ℕ} {f : F} (number : X → ℕ) (past : X) (items : List X) (numbers : List ℕ)
+    (n : ℕ) → length items ≡ n → IsMapOf g f items numbers n
+    → ((p q : F) (x : X) (y : ℕ) → Called g p (x, tt) y q → y ≡ number x) → numbers ≡ map number items
+numbers-made number past items numbers n long M each =
+    ext_get_or (number past) numbers (map number items) (M.long ∙ sym (length-map items number ∙ long))
+    (λ i l.
+    let made = M.at i past (number past) (omega (arith, M.long)) in
+    each made.0 made.1 _ _ made.2 ∙ sym (get_or-map number items i past))
