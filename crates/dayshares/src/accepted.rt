@@ -1,7 +1,7 @@
 ghost use Rattle.std.specs.Prelude.{length};
 ghost use Rattle.dayshares.specs.Private.{DayReady, DayShared};
 
-use crate::class::{both, is_full, offer};
+use crate::class::{is_full, offer};
 use crate::firm::share_firm;
 use crate::{Levels, Shares};
 use units::Gigajoules;
@@ -55,7 +55,8 @@ pub fn share_accepted(
         auction,
     );
     let rest = offered - auction_given.total.0;
-    let lower_tier_held = both(auction_held, is_full(auction_schedule, auction));
+    let auction_full = is_full(auction_schedule, auction);
+    let lower_tier_held = auction_held && auction_full;
     let lower_tier_given = offer(
         lower_tier_held,
         rest,

@@ -1,11 +1,10 @@
 // Auction and lower tier: a class that is held only where no row above it is short.
-ghost use Rattle.std.specs.Prelude.{◌≡◌, cond, false, ◌≤◌, length};
+ghost use Rattle.std.specs.Prelude.{◌≡◌, ◌≤◌, length};
 ghost use Rattle.columns.specs.Column.{col};
 ghost use Rattle.rounds.specs.Private.{Ready};
-ghost use Rattle.dayshares.specs.Class.{first_short, full};
+ghost use Rattle.dayshares.specs.Class.{full};
 ghost use Rattle.dayshares.specs.Private.{Offered};
 
-use crate::lists::zero_list;
 use crate::round::hold;
 use rounds::Given;
 use units::Gigajoules;
@@ -18,7 +17,7 @@ pub fn offer(held: bool, capacity: u32, weights: &[u32], needs: &[u32], shares: 
     if held {
         return hold(capacity, weights, needs, shares);
     }
-    zero_list(weights.len(), shares);
+    shares[..weights.len()].fill(0);
     Given {
         level: 0,
         total: Gigajoules(0),
@@ -30,30 +29,5 @@ pub fn is_full(schedule: &[u32], given: &[u32]) -> bool
     requires { length schedule.now ≤ length given.now }
     ensures { result ≡ full (length schedule.now) (col schedule.now) (col given.now) }
 {
-    schedule.len() <= short_row(schedule, given)
-}
-
-// The lowest row that is short, or the number of rows.
-fn short_row(schedule: &[u32], given: &[u32]) -> usize
-    requires { length schedule.now ≤ length given.now }
-    ensures { result ≡ first_short (length schedule.now) (col schedule.now) (col given.now) }
-{
-    let mut row = 0;
-    while row < schedule.len() {
-        if given[row] < schedule[row] {
-            return row;
-        }
-        row += 1;
-    }
-    row
-}
-
-// Lower tier is held where auction is and no auction row is short.
-pub fn both(firm: bool, auction: bool) -> bool
-    ensures { result ≡ cond firm auction false }
-{
-    if firm {
-        return auction;
-    }
-    false
+    schedule.iter().zip(given).all(|(need, had)| need <= had)
 }

@@ -1,4 +1,4 @@
-// Loops over the rows of a table's lists.
+// What is written row by row to the front of a list.
 ghost use Rattle.std.specs.Prelude.{◌≡◌, ℕ, ◌+◌, ◌-◌, ◌≤◌, ◌<◌, length};
 ghost use Rattle.std.proofs.lemmas.List.Edits.{sets};
 ghost use Rattle.columns.specs.Column.{col, listed};
@@ -12,10 +12,8 @@ pub fn free_flow_list(mdqs: &[u32], list: &mut [u32])
     ensures { list.new
         ≡ sets list.old 0 (listed (length mdqs.now) (λ i. three_quarters (col mdqs.now i))) }
 {
-    let mut row = 0;
-    while row < mdqs.len() {
-        list[row] = crate::free_flow_mdq(Gigajoules(mdqs[row])).0;
-        row += 1;
+    for (row, mdq) in mdqs.iter().enumerate() {
+        list[row] = crate::free_flow_mdq(Gigajoules(*mdq)).0;
     }
 }
 
@@ -26,20 +24,9 @@ pub fn rest_list(wholes: &[u32], parts: &[u32], list: &mut [u32])
         ≡ sets list.old 0
         (listed (length wholes.now) (λ i. col wholes.now i - col parts.now i)) }
 {
-    let mut row = 0;
-    while row < wholes.len() {
-        list[row] = rest(wholes[row], parts[row]);
-        row += 1;
+    for (row, whole) in wholes.iter().enumerate() {
+        list[row] = whole.saturating_sub(parts[row]);
     }
-}
-
-fn rest(whole: u32, part: u32) -> u32
-    ensures { result ≡ whole - part }
-{
-    if whole < part {
-        return 0;
-    }
-    whole - part
 }
 
 // Adds to each row.
@@ -49,21 +36,7 @@ pub fn add_list(more: &[u32], list: &mut [u32])
     ensures { list.new
         ≡ sets list.old 0 (listed (length more.now) (λ i. col list.old i + col more.now i)) }
 {
-    let mut row = 0;
-    while row < more.len() {
-        list[row] = list[row] + more[row];
-        row += 1;
-    }
-}
-
-// Writes zero to so many rows.
-pub fn zero_list(rows: usize, list: &mut [u32])
-    requires { rows ≤ length list.old }
-    ensures { list.new ≡ sets list.old 0 (listed rows (λ i. 0)) }
-{
-    let mut row = 0;
-    while row < rows {
-        list[row] = 0;
-        row += 1;
+    for (row, figure) in more.iter().enumerate() {
+        list[row] += *figure;
     }
 }

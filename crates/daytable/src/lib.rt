@@ -89,21 +89,16 @@ fn examine_figures(
 fn idle_row(mdqs: &[u32], schedules: &[u32]) -> usize
     ensures { result ≡ first_idle mdqs.now schedules.now }
 {
-    let mut row = 0;
-    while row < mdqs.len() {
-        if is_idle(mdqs[row], gigajoules_at(schedules, row)) {
+    for (row, mdq) in mdqs.iter().enumerate() {
+        if is_idle(*mdq, gigajoules_at(schedules, row)) {
             return row;
         }
-        row += 1;
     }
-    row
+    mdqs.len()
 }
 
 fn is_idle(mdq: u32, schedule: u32) -> bool
     ensures { result ≡ idle mdq schedule }
 {
-    if mdq == 0 {
-        return 0 < schedule;
-    }
-    false
+    mdq == 0 && 0 < schedule
 }

@@ -1,6 +1,6 @@
 -- Hours compared are those metered, each less what is excused: none is above its metered hour, and where nothing is excused all are equal.
 use Rattle.std.specs.Prelude.{Ok}
-use mathlib.Core.Path.{◌≡◌, ap, sym, ◌∙◌}
+use mathlib.Core.Path.{◌≡◌, sym, ◌∙◌}
 use mathlib.Core.List.{List}
 use Prim.Native.Nat.{ℕ, ◌-◌, ◌≤◌, ◌<◌}
 use native.Mathlib.Decide.{dec_lt}
@@ -9,9 +9,9 @@ use native.Mathlib.Omega.{arith}
 use borrow.Author.Tests.{le-ltb}
 use lib.Dec.{ltb}
 use lib.ListN.{length, replicate, length-replicate, get_or-replicate, get_or-eq_default}
-use Rattle.columns.specs.Column.{col, listed}
+use Rattle.columns.specs.Column.{col}
 use Rattle.columns.proofs.Firsts.{first-none}
-use Rattle.columns.proofs.Lists.{Filling, filling_whole, length-listed, col-listed, listed-col, listed_same}
+use Rattle.columns.proofs.Lists.{length-listed, col-listed, listed-col, listed_same}
 use Rattle.units.specs.declared.Megajoules.{Megajoules}
 use Rattle.units.proofs.Checks.{accepts-both, accepts-clear}
 use Rattle.metered.specs.Hours.{delivered, received}
@@ -22,11 +22,6 @@ module _ (metered excused : List ℕ) where
   -- an hour less what is excused
   abbrev pub less : ℕ → ℕ
   less hour = col metered hour - col excused hour
-
-  -- a loop has written all hours of a list
-  pub less-all : (start : List ℕ) (n : ℕ) {hour : ℕ} {hours : List ℕ} → length metered ≡ n → length start ≡ n
-      → Filling start less hour hours → hour ≤ n → n ≤ hour → hours ≡ compared metered excused
-  less-all start n long room F h k = filling_whole start less n _ _ F room h k ∙ ap (λ m. listed m less) (sym long)
 
   pub length-compared : length (compared metered excused) ≡ length metered
   length-compared = length-listed (length metered) less

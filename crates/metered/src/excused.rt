@@ -6,13 +6,13 @@ use crate::hours::bare_hours;
 use columns::lesser;
 use units::{Megajoules, Refusal, clear};
 
-// Whether no hour has more excused than was metered. All are looked at, and so several at once.
+// Whether no hour has more excused than was metered. All are looked at, by their index, and so several at once.
 fn excused_keep(metered: &[u64], excused: &[u64]) -> bool
     ensures { result ≡ true → both_have metered.now excused.now
         ≡ first_above_metered metered.now excused.now }
 {
     let mut kept = true;
-    for hour in 0..lesser(metered.len(), excused.len()) {
+    for hour in 0..metered.len().min(excused.len()) {
         if metered[hour] < excused[hour] {
             kept = false;
         }
@@ -24,18 +24,15 @@ fn excused_keep(metered: &[u64], excused: &[u64]) -> bool
 fn first_above_metered(metered: &[u64], excused: &[u64]) -> usize
     ensures { result ≡ first_above_metered metered.now excused.now }
 {
-    let hours = lesser(metered.len(), excused.len());
+    let hours = metered.len().min(excused.len());
     if excused_keep(metered, excused) {
         return hours;
     }
-    let mut hour = 0;
-    while hour < hours {
-        if metered[hour] < excused[hour] {
-            return hour;
-        }
-        hour += 1;
-    }
-    hour
+    metered
+        .iter()
+        .zip(excused)
+        .position(|(most, gone)| most < gone)
+        .unwrap_or(hours)
 }
 
 // Whether a list's excused hours are within those metered.
@@ -46,7 +43,7 @@ pub fn examine_excused(metered: &[u64], excused: &[u64]) -> Result<(), Refusal>
     clear(hours, first_above_metered(metered, excused), 3)
 }
 
-// Whether no hour of a row has more excused than was metered, without a list of its hours. All are looked at.
+// Whether no hour of a row has more excused than was metered, without a list of its hours. All are looked at, by their index as above.
 fn row_keeps(metered: [Megajoules; 24], excused: [Megajoules; 24]) -> bool
     ensures { result ≡ true → excused_check (bare_hours metered) (bare_hours excused) ≡ Ok tt }
 {
@@ -84,8 +81,5 @@ pub fn examine_excused_hours(hours: [[Megajoules; 24]; 2], excused: [[Megajoules
 pub fn excess(gas: Megajoules, limit: Megajoules) -> Megajoules
     ensures { result.0 ≡ gas.0 - limit.0 }
 {
-    if gas.0 < limit.0 {
-        return Megajoules(0);
-    }
-    Megajoules(gas.0 - limit.0)
+    Megajoules(gas.0.saturating_sub(limit.0))
 }

@@ -1,5 +1,6 @@
 pub mod Limits
 pub mod Parts
+pub mod Made
 pub mod Days
 pub mod Accepting
 pub mod WholeDay

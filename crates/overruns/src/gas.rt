@@ -20,8 +20,8 @@ pub fn gas_of(hours: &[u64]) -> Megajoules
     ensures { result.0 ≡ sum (length hours.now) (col hours.now) }
 {
     let mut total = 0;
-    for hour in 0..hours.len() {
-        total += hours[hour];
+    for hour in hours {
+        total += *hour;
     }
     Megajoules(total)
 }

@@ -18,6 +18,7 @@ pub fn hourly(
     let most_delivered = thousandths(50, m);
     let most_received = thousandths(44, m);
     let mut total = 0;
+    // Four rows are read at one index: zips of zips would be no plainer.
     for hour in 0..24usize {
         let delivered = excess(hours[0][hour], excused[0][hour]);
         let received = excess(hours[1][hour], excused[1][hour]);

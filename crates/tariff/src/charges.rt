@@ -28,20 +28,14 @@ pub fn overrun_charge(rate: Rate, overrun: Megajoules) -> Result<Cents, Refusal>
 fn upward(change: Change) -> Gigajoules
     ensures { result.0 ≡ (upward change).0 }
 {
-    if change.new.0 <= change.old.0 {
-        return Gigajoules(0);
-    }
-    Gigajoules(change.new.0 - change.old.0)
+    Gigajoules(change.new.0.saturating_sub(change.old.0))
 }
 
 // The larger of two quantities.
 fn larger(a: Gigajoules, b: Gigajoules) -> Gigajoules
     ensures { result.0 ≡ (larger a b).0 }
 {
-    if a.0 < b.0 {
-        return b;
-    }
-    a
+    Gigajoules(a.0.max(b.0))
 }
 
 // Cl. 9.3: the charge for varying a day's receipt and delivery schedules.

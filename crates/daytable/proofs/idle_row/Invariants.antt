@@ -1,5 +1,4 @@
 -- No row that the search has passed is idle.
-use Prim.Native.Nat.{◌-◌}
 use lib.ListN.{length}
 use Rattle.columns.specs.Column.{col}
 use Rattle.columns.proofs.Firsts.{Searched}
@@ -8,6 +7,3 @@ use Rattle.daytable.proofs.idle_row.Given as goal
 
 abbrev pub invariant-loop-row : goal.invariant-loop-row
 invariant-loop-row l = Searched (λ i. idle (col l.mdqs i) (col l.schedules i)) (length l.mdqs) l.row
-
-abbrev pub decreases-loop-row : goal.decreases-loop-row
-decreases-loop-row l = length l.mdqs - l.row

@@ -4,6 +4,7 @@ use mathlib.Core.Bool.{Bool, cond, false}
 use mathlib.Core.List.{List}
 use Prim.Native.Nat.{ℕ, ◌+◌, ◌-◌}
 use lib.ListN.{length}
+use Rattle.std.proofs.Common.{rules}
 use Rattle.columns.specs.Column.{col}
 use Rattle.rounds.specs.declared.Given.{Given}
 use Rattle.daytable.specs.Table.{Table}
@@ -63,8 +64,8 @@ overflow_sub-rest c =
     (auction-stage c.args.auction.now c.args.lower_tier.now c.requires c.share_firm-firm_given.ensures
     c.is_full-auction_held.ensures c.offer-auction_given.ensures)
 
-pub is_full-requires : goal.is_full-requires
-is_full-requires c =
+pub is_full-auction_full-requires : goal.is_full-auction_full-requires
+is_full-auction_full-requires c =
     auction_room
     (auction-stage c.args.auction.now c.args.lower_tier.now c.requires c.share_firm-firm_given.ensures
     c.is_full-auction_held.ensures c.offer-auction_given.ensures)
@@ -80,11 +81,11 @@ overflow_sub-left c =
     lower_tier-spent
     (lower-tier-stage c.args.auction.now c.args.lower_tier.now c.requires c.share_firm-firm_given.ensures
     c.is_full-auction_held.ensures c.offer-auction_given.ensures
-    c.is_full.ensures c.both-lower_tier_held.ensures c.offer-lower_tier_given.ensures)
+    c.is_full-auction_full.ensures (search rules) c.offer-lower_tier_given.ensures)
 
 pub returns : goal.returns
 returns c =
     day-shared
     (lower-tier-stage c.args.auction.now c.args.lower_tier.now c.requires c.share_firm-firm_given.ensures
     c.is_full-auction_held.ensures c.offer-auction_given.ensures
-    c.is_full.ensures c.both-lower_tier_held.ensures c.offer-lower_tier_given.ensures)
+    c.is_full-auction_full.ensures (search rules) c.offer-lower_tier_given.ensures)

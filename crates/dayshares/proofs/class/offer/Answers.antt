@@ -1,4 +1,5 @@
 -- Held, it is a round; not held, the rows are set to zero.
+use Rattle.std.proofs.lemmas.List.{length-take-le}
 use Rattle.dayshares.proofs.Offering.{offers, withholds}
 use Rattle.dayshares.proofs.class.offer.Goals as goal
 
@@ -6,4 +7,6 @@ pub returns-then-held : goal.returns-then-held
 returns-then-held c = offers _ _ _ _ _ _ _ c.if-held.true c.hold.ensures
 
 pub returns : goal.returns
-returns c = withholds _ _ _ _ _ _ c.if-held.false c.zero_list.ensures
+returns c =
+    withholds _ _ _ _ _ _ c.if-held.false c.requires.fits
+    (rw (length-take-le _ _ c.requires.fits) at (c.fill.ensures.after (λ y e. e)))

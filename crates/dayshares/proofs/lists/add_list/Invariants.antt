@@ -1,12 +1,8 @@
 -- The rows that the loop has passed are added to, and the rest are as they were.
-use Prim.Native.Nat.{◌+◌, ◌-◌, ◌≤◌}
-use lib.ListN.{length}
+use Prim.Native.Nat.{◌+◌}
 use Rattle.columns.specs.Column.{col}
 use Rattle.columns.proofs.Lists.{Filling}
 use Rattle.dayshares.proofs.lists.add_list.Given as goal
 
 abbrev pub invariant-loop-row : goal.invariant-loop-row
-invariant-loop-row l = (l.row ≤ length l.more) × Filling l.initial.list (λ i. col l.initial.list i + col l.more i) l.row l.list
-
-abbrev pub decreases-loop-row : goal.decreases-loop-row
-decreases-loop-row l = length l.more - l.row
+invariant-loop-row l = Filling l.initial.list (λ i. col l.initial.list i + col l.more i) l.row l.list

@@ -1,16 +1,9 @@
 use mathlib.Core.Path.{ap}
-use native.Mathlib.Omega.{arith}
-use Rattle.columns.proofs.Lists.{filling_none, filling_next, filling_all}
+use Rattle.columns.proofs.Lists.{filling_none, filling_next}
 use Rattle.dayshares.proofs.lists.free_flow_list.Goals as goal
 
 pub loop-row-init : goal.loop-row-init
-loop-row-init c = (omega arith, filling_none _ _)
+loop-row-init c = filling_none _ _
 
 pub loop-row-preserved : goal.loop-row-preserved
-loop-row-preserved c = (omega arith, filling_next _ _ _ _ _ c.loop-row.invariant.1 (ap (λ g. g.0) c.free_flow_mdq.ensures))
-
-pub shape_of-list : goal.shape_of-list
-shape_of-list c = c.loop-row.invariant.1.long
-
-pub returns : goal.returns
-returns c = filling_all _ _ _ _ _ c.loop-row.invariant.1 c.loop-row.invariant.0 c.loop-row-test.false
+loop-row-preserved c = filling_next _ _ _ _ _ c.loop-row.invariant (ap (λ g. g.0) c.free_flow_mdq.ensures)

@@ -1,12 +1,8 @@
 -- The rows that the loop has passed hold what the whole has beyond the part.
-use Prim.Native.Nat.{◌-◌, ◌≤◌}
-use lib.ListN.{length}
+use Prim.Native.Nat.{◌-◌}
 use Rattle.columns.specs.Column.{col}
 use Rattle.columns.proofs.Lists.{Filling}
 use Rattle.dayshares.proofs.lists.rest_list.Given as goal
 
 abbrev pub invariant-loop-row : goal.invariant-loop-row
-invariant-loop-row l = (l.row ≤ length l.wholes) × Filling l.initial.list (λ i. col l.wholes i - col l.parts i) l.row l.list
-
-abbrev pub decreases-loop-row : goal.decreases-loop-row
-decreases-loop-row l = length l.wholes - l.row
+invariant-loop-row l = Filling l.initial.list (λ i. col l.wholes i - col l.parts i) l.row l.list

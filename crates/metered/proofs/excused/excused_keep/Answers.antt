@@ -10,7 +10,7 @@ use Rattle.metered.proofs.excused.excused_keep.Goals as goal
 use Rattle.metered.proofs.excused.excused_keep.Goals.{then-metered-hour, else-metered-hour}
 
 pub loop-hour-init : goal.loop-hour-init
-loop-hour-init c = (λ e. searched_none _ _, c.lesser-hour-end.ensures)
+loop-hour-init c = (λ e. searched_none _ _, c.min-hour-end.ensures)
 
 pub loop-hour-preserved : goal.loop-hour-preserved
 loop-hour-preserved c =

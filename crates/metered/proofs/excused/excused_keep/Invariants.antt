@@ -1,7 +1,6 @@
 -- While the flag stands, no hour that was looked at has more excused than was metered.
 use mathlib.Core.Path.{◌≡◌}
 use mathlib.Core.Bool.{true}
-use Prim.Native.Nat.{◌-◌}
 use lib.Dec.{ltb}
 use Rattle.columns.specs.Column.{col}
 use Rattle.columns.proofs.Firsts.{Searched}
@@ -12,6 +11,3 @@ abbrev pub invariant-loop-hour : goal.invariant-loop-hour
 invariant-loop-hour l =
     (l.kept ≡ true → Searched (λ i. ltb (col l.metered i) (col l.excused i)) (both_have l.metered l.excused) l.hour)
     × (l.hour-end ≡ both_have l.metered l.excused)
-
-abbrev pub decreases-loop-hour : goal.decreases-loop-hour
-decreases-loop-hour l = l.hour-end - l.hour

@@ -1,7 +1,6 @@
 -- While the flag stands, no hour that was looked at has more excused than was metered.
 use mathlib.Core.Path.{◌≡◌}
 use mathlib.Core.Bool.{true}
-use Prim.Native.Nat.{◌-◌}
 use lib.Dec.{ltb}
 use Rattle.columns.specs.Column.{col}
 use Rattle.columns.proofs.Firsts.{Searched}
@@ -11,6 +10,3 @@ use Rattle.metered.proofs.excused.row_keeps.Given as goal
 abbrev pub invariant-loop-hour : goal.invariant-loop-hour
 invariant-loop-hour l =
     l.kept ≡ true → Searched (λ i. ltb (col (bare_hours l.metered) i) (col (bare_hours l.excused) i)) 24 l.hour
-
-abbrev pub decreases-loop-hour : goal.decreases-loop-hour
-decreases-loop-hour l = 24 - l.hour

@@ -1,17 +1,7 @@
-use mathlib.Core.Path.{◌∙◌}
-use borrow.Author.Rules.{rules}
-use lib.ListN.{replicate}
-use Rattle.columns.proofs.Lists.{filling_none, filling_next}
-use Rattle.metered.proofs.Rows.{filled, figure_at, length-figures}
+-- Each number is its hour's.
+use Rattle.std.proofs.Common.{rules}
+use Rattle.metered.proofs.Rows.{numbers-made}
 use Rattle.metered.proofs.hours.bare_hours.Goals as goal
 
-pub loop-hour-init : goal.loop-hour-init
-loop-hour-init c = (search rules, filling_none _ _)
-
-pub loop-hour-preserved : goal.loop-hour-preserved
-loop-hour-preserved c = (search rules, filling_next _ _ _ _ _ c.loop-hour.invariant.1 (figure_at c.args.row _))
-
 pub returns : goal.returns
-returns c =
-    filled (replicate 24 0) _ 24 (search rules) (length-figures c.args.row ∙ c.well_formed.0.1.0.1) c.loop-hour.invariant.1
-    c.loop-hour.invariant.0 c.loop-hour-test.false
+returns c = numbers-made (λ x. x.0) (record { 0 = 0 }) c.args.row _ 24 (search rules) c.map.ensures.items (λ p q x y k. search rules)

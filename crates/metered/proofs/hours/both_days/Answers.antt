@@ -1,17 +1,10 @@
-use borrow.Author.Rules.{rules}
-use lib.ListN.{replicate}
-use Rattle.metered.proofs.Rows.{following-none, following-next, following-all, figure_at}
+-- Yesterday's numbers are copied to the front, and today's behind them.
+use Rattle.std.proofs.Common.{rules, refl, ◌∙◌}
+use Rattle.metered.proofs.Rows.{days-copied, length-figures, numbers-made}
 use Rattle.metered.proofs.hours.both_days.Goals as goal
-
-pub loop-hour-init : goal.loop-hour-init
-loop-hour-init c = (search rules, following-none c.days_begun-hours.result c.args.today)
-
-pub loop-hour-preserved : goal.loop-hour-preserved
-loop-hour-preserved c =
-    let today = c.args.today in
-    (search rules, following-next _ today c.loop-hour.hour c.loop-hour.invariant.1 (figure_at today _))
 
 pub returns : goal.returns
 returns c =
-    following-all _ c.args.today (replicate 35 0) c.args.yesterday c.loop-hour.invariant.1 c.loop-hour-test.false
-    c.loop-hour.invariant.0 c.well_formed.0.1.0.1 c.well_formed.1.0.1.0.1 (search rules) c.days_begun-hours.ensures
+    days-copied _ _ _ _ _ refl (length-figures c.args.yesterday ∙ search rules)
+    (c.copy_from_slice.ensures.after ∙ numbers-made (λ x. x.0) (record { 0 = 0 }) c.args.yesterday _ 11 (search rules) c.map.ensures.items (λ p q x y k. search rules))
+    (c.copy_from_slice-2.ensures.after ∙ c.bare_hours.ensures)

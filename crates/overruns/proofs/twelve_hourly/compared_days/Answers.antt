@@ -1,16 +1,12 @@
-use borrow.Author.Rules.{rules}
-use lib.ListN.{replicate}
-use Rattle.columns.proofs.Lists.{filling_none, filling_next}
-use Rattle.metered.proofs.Comparing.{less-all}
+-- Each hour is that metered, less what is excused.
+use Rattle.std.proofs.Common.{rules, ◌-◌, sym, ap, ◌∙◌}
+use Rattle.columns.specs.Column.{col, listed}
+use Rattle.overruns.proofs.Made.{made}
 use Rattle.overruns.proofs.twelve_hourly.compared_days.Goals as goal
-
-pub loop-hour-init : goal.loop-hour-init
-loop-hour-init c = (search rules, filling_none _ _)
-
-pub loop-hour-preserved : goal.loop-hour-preserved
-loop-hour-preserved c = (search rules, filling_next _ _ _ _ _ c.loop-hour.invariant.1 c.excess-left.ensures)
 
 pub returns : goal.returns
 returns c =
-    less-all c.args.metered.now c.args.excused.now (replicate 35 0) 35 c.requires.0 (search rules)
-    c.loop-hour.invariant.1 c.loop-hour.invariant.0 c.loop-hour-test.false
+    let metered = c.args.metered.now in
+    let excused = c.args.excused.now in
+    made _ _ (λ hour. col metered hour - col excused hour) _ 0 (λ hour y q k. search rules) 35 c.from_fn.ensures.items
+    ∙ ap (λ n. listed n (λ hour. col metered hour - col excused hour)) (sym c.requires.0)
