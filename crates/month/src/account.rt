@@ -1,6 +1,5 @@
 // The account of a month, by value: each method takes it and hands it back.
 ghost use Rattle.std.specs.Prelude.{◌≡◌};
-ghost use Rattle.units.specs.declared.refusal.Check.TheVariants.{Accepted};
 ghost use Rattle.lines.specs.Answer.{ListingAnswered};
 ghost use Rattle.month.specs.Account.{no_days, account_check, take_in};
 ghost use Rattle.month.specs.Total.{account_sums, total_up};
