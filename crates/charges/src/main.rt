@@ -2,16 +2,15 @@
 #![tactic(auto)]
 
 use decimals::Decimal;
-use lines::Listing;
 use std::env::Env;
 use std::io::{Read, Result, Write};
-use streams::{BUFFER, LARGE_BUFFER};
+use streams::LARGE_BUFFER;
 use units::{MOST_RATE, Rate, Refusal};
 
 fn main(rt: HostRuntime) -> Result<()> {
     let decimal = rate_asked(&rt);
     match decimal {
-        Decimal::Refused(refusal) => print_refusal(&mut rt.stdout(), refusal),
+        Decimal::Refused(refusal) => streams::print_refusal(&mut rt.stdout(), refusal),
         Decimal::Number(rate) => print_charges(&mut rt.stdin(), &mut rt.stdout(), Rate(rate)),
     }
 }
@@ -34,24 +33,5 @@ fn print_charges<R: Read, W: Write>(input: &mut R, out: &mut W, rate: Rate) -> R
     let mut text = [0u8; LARGE_BUFFER];
     let got = streams::read_full(input, &mut file)?;
     let listing = chargelisting::list_charges(&file[..got], rate, &mut text);
-    match listing {
-        Listing::Text(size) => print(out, &text, size),
-        Listing::Refused(refusal) => print_refusal(out, refusal),
-    }
-}
-
-fn print_refusal<W: Write>(out: &mut W, refusal: Refusal) -> Result<()> {
-    let mut line = [0u8; BUFFER];
-    let refused = lines::refusal_line(refusal, &mut line);
-    match refused {
-        Listing::Text(size) => print(out, &line, size),
-        Listing::Refused(_) => Ok(()),
-    }
-}
-
-fn print<W: Write>(out: &mut W, text: &[u8], size: usize) -> Result<()> {
-    if size <= text.len() {
-        out.write_all(&text[..size])?;
-    }
-    Ok(())
+    streams::print_listing(out, listing, &text)
 }

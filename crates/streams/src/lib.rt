@@ -1,12 +1,17 @@
-// What the programs share over std: a whole read of the input, numbers and bytes as text, and an argument's bytes.
+// What the programs share over std: a whole read of the input, a listing printed, numbers and bytes as text, and an argument's bytes.
 #![tactic(auto)]
 
-ghost use Rattle.std.specs.Prelude.{◌<◌, ◌≤◌, length, take, IfOk, OnOk, decimal, ◌/◌, ◌%◌, ◌∷◌, [], false};
+ghost use Rattle.std.specs.Prelude.{◌≡◌, ℕ, ◌<◌, ◌≤◌, length, take, IfOk, OnOk, decimal, ◌/◌, ◌%◌, ◌∷◌, [], false};
 ghost use Rattle.std.specs.Fmt.{digit_glyph};
 ghost use Rattle.std.specs.Io.KnownBytes.{Appends, Consumes, IsAtEnd};
+ghost use Rattle.units.specs.declared.refusal.Refusal.{Refusal};
+ghost use Rattle.lines.specs.declared.Listing.{Listing};
+ghost use Rattle.lines.specs.Line.{refused};
 
+use lines::Listing;
 use std::env::{Env, FillError};
 use std::io::{Read, Result, Write};
+use units::Refusal;
 
 // What a buffer for a line holds, and one for a file or its listing.
 pub const BUFFER: usize = 4_096;
@@ -20,6 +25,7 @@ pub fn read_full<R: Read>(input: &mut R, buf: &mut [u8]) -> Result<usize>
         (take n buf.new)) }
     ensures end { IfOk result (λ n. n < length buf.new → IsAtEnd (R.remaining input.new)) }
 {
+    // No `for`: a read gives as many bytes as it likes.
     let mut done = 0;
     while done < buf.len() {
         let n = input.read(&mut buf[done..])?;
@@ -29,6 +35,33 @@ pub fn read_full<R: Read>(input: &mut R, buf: &mut [u8]) -> Result<usize>
         done += n;
     }
     Ok(done)
+}
+
+// Prints a listing's text out of the block that it was laid into, or the line of its refusal.
+pub fn print_listing<W: Write>(out: &mut W, listing: Listing, block: &[u8]) -> Result<()>
+    ensures text { (size : ℕ) → listing ≡ Listing.Text size → size ≤ length block.now
+        → OnOk result (Appends (W.contents out.old) (W.contents out.new) (take size block.now)) }
+    ensures refusal { (refusal : Refusal) → listing ≡ Listing.Refused refusal
+        → OnOk result (Appends (W.contents out.old) (W.contents out.new) (refused refusal)) }
+{
+    match listing {
+        Listing::Refused(refusal) => print_refusal(out, refusal),
+        Listing::Text(size) => {
+            if block.len() < size {
+                return Ok(());
+            }
+            out.write_all(&block[..size])
+        }
+    }
+}
+
+// Prints the line of a refusal, which a buffer for a line always has room for.
+pub fn print_refusal<W: Write>(out: &mut W, refusal: Refusal) -> Result<()>
+    ensures { OnOk result (Appends (W.contents out.old) (W.contents out.new) (refused refusal)) }
+{
+    let mut line = [0u8; BUFFER];
+    let size = lines::put_refusal(refusal, &mut line, 0);
+    out.write_all(&line[..size])
 }
 
 // A number's decimal digits.
@@ -48,18 +81,12 @@ pub fn print_hex<W: Write>(out: &mut W, byte: u8) -> Result<()>
 
 // Whether the program has argument i.
 pub fn has_arg<E: Env>(env: &E, i: usize) -> bool {
-    match env.arg(i, &mut []) {
-        Err(FillError::NotPresent) => false,
-        _ => true,
-    }
+    !matches!(env.arg(i, &mut []), Err(FillError::NotPresent))
 }
 
 // Puts argument i at the start of buf, and returns how many bytes it has, or 0 where it is missing or longer than buf.
 pub fn arg<E: Env>(env: &E, i: usize, buf: &mut [u8]) -> usize
     ensures { result ≤ length buf.new }
 {
-    match env.arg(i, buf) {
-        Ok(n) => n,
-        Err(_) => 0,
-    }
+    env.arg(i, buf).unwrap_or(0)
 }

@@ -27,7 +27,7 @@ fn keep<T: Copy + PartialOrd>(figures: &[T], most: T) -> bool
 }
 
 // The place of the first figure above the most allowed, or the number of figures where none is.
-pub fn first_above<T: Copy + PartialOrd>(figures: &[T], most: T) -> usize
+fn first_above<T: Copy + PartialOrd>(figures: &[T], most: T) -> usize
     ensures { result ≡ position_or_len (partial_lt T.partial_cmp most) figures.now }
 {
     if keep(figures, most) {
