@@ -10,10 +10,7 @@ use crate::{Gigajoules, Megajoules};
 pub fn gigajoules_at(figures: &[u32], row: usize) -> u32
     ensures { result ≡ col figures.now row }
 {
-    if figures.len() <= row {
-        return 0;
-    }
-    figures[row]
+    figures.get(row).copied().unwrap_or(0)
 }
 
 // Whether no figure is above the most allowed. All are looked at, and so several at once.
