@@ -3,13 +3,12 @@
 
 use std::env::Env;
 use std::io::{self, Read, Write};
-use streams::{BUFFER, LARGE_BUFFER};
+use streams::LARGE_BUFFER;
 use units::{MOST_RATE, Rate, Refusal};
 
 fn main(rt: HostRuntime) -> io::Result<()> {
-    let decimal = rate_asked(&rt);
-    match decimal {
-        Err(refusal) => print_refusal(&mut rt.stdout(), refusal),
+    match rate_asked(&rt) {
+        Err(refusal) => streams::print_refusal(&mut rt.stdout(), refusal),
         Ok(rate) => print_charges(&mut rt.stdin(), &mut rt.stdout(), Rate(rate)),
     }
 }
@@ -32,24 +31,5 @@ fn print_charges<R: Read, W: Write>(input: &mut R, out: &mut W, rate: Rate) -> i
     let mut text = [0u8; LARGE_BUFFER];
     let got = streams::read_full(input, &mut file)?;
     let listing = chargelisting::list_charges(&file[..got], rate, &mut text);
-    match listing {
-        Ok(size) => print(out, &text, size),
-        Err(refusal) => print_refusal(out, refusal),
-    }
-}
-
-fn print_refusal<W: Write>(out: &mut W, refusal: Refusal) -> io::Result<()> {
-    let mut line = [0u8; BUFFER];
-    let refused = lines::refusal_line(refusal, &mut line);
-    match refused {
-        Ok(size) => print(out, &line, size),
-        Err(_) => Ok(()),
-    }
-}
-
-fn print<W: Write>(out: &mut W, text: &[u8], size: usize) -> io::Result<()> {
-    if size <= text.len() {
-        out.write_all(&text[..size])?;
-    }
-    Ok(())
+    streams::print_listing(out, listing, &text)
 }

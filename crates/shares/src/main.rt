@@ -1,7 +1,7 @@
 // Reads a day file on standard input and prints the day's shares, or why the file is refused.
 #![tactic(auto)]
 
-use std::io::{Result, Write};
+use std::io::Result;
 use streams::{BUFFER, LARGE_BUFFER};
 
 fn main(rt: HostRuntime) -> Result<()> {
@@ -9,22 +9,5 @@ fn main(rt: HostRuntime) -> Result<()> {
     let mut text = [0u8; BUFFER];
     let got = streams::read_full(&mut rt.stdin(), &mut file)?;
     let listing = sharelisting::list_shares(&file[..got], &mut text);
-    match listing {
-        Ok(size) => print(&mut rt.stdout(), &text, size),
-        Err(refusal) => {
-            let mut line = [0u8; BUFFER];
-            let refused = lines::refusal_line(refusal, &mut line);
-            match refused {
-                Ok(size) => print(&mut rt.stdout(), &line, size),
-                Err(_) => Ok(()),
-            }
-        }
-    }
-}
-
-fn print<W: Write>(out: &mut W, text: &[u8], size: usize) -> Result<()> {
-    if size <= text.len() {
-        out.write_all(&text[..size])?;
-    }
-    Ok(())
+    streams::print_listing(&mut rt.stdout(), listing, &text)
 }

@@ -10,10 +10,7 @@ use crate::{Gigajoules, Megajoules};
 pub fn gigajoules_at(figures: &[u32], row: usize) -> u32
     ensures { result ≡ col figures.now row }
 {
-    if figures.len() <= row {
-        return 0;
-    }
-    figures[row]
+    figures.get(row).copied().unwrap_or(0)
 }
 
 // Whether no figure is above the most allowed. All are looked at, and so several at once.
@@ -27,7 +24,7 @@ fn keep<T: Copy + PartialOrd>(figures: &[T], most: T) -> bool
 }
 
 // The place of the first figure above the most allowed, or the number of figures where none is.
-pub fn first_above<T: Copy + PartialOrd>(figures: &[T], most: T) -> usize
+fn first_above<T: Copy + PartialOrd>(figures: &[T], most: T) -> usize
     ensures { result ≡ position_or_len (partial_lt T.partial_cmp most) figures.now }
 {
     if keep(figures, most) {
