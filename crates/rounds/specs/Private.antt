@@ -13,6 +13,10 @@ pub record Rows (ws qs : List ℕ) : Type 0 where
   pub weights : Small (length ws) (col ws)
   pub needs : Small (length ws) (col qs)
 
+-- what a level gives such rows together
+abbrev pub given_at : List ℕ → List ℕ → ℕ → ℕ
+given_at ws qs t = total (length ws) (col ws) (col qs) t
+
 -- and a capacity and a lent list to share it in: what the tests accept
 pub record Ready (c : ℕ) (ws qs : List ℕ) (room : ℕ) : Type 0 where
   pub rows : Rows ws qs

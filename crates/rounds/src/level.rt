@@ -1,6 +1,7 @@
 ghost use Rattle.std.specs.Prelude.{◌≡◌, ◌≤◌, ◌<◌, length};
 ghost use Rattle.columns.specs.Column.{col};
-ghost use Rattle.sharing.specs.Round.{top, total, level};
+ghost use Rattle.sharing.specs.Round.{top, level};
+ghost use Rattle.rounds.specs.Private.{given_at};
 
 use crate::guess::{between, is_between, lowered, raised, step};
 use crate::rows::Sharers;
@@ -23,7 +24,7 @@ impl Sharers<'_> {
 
     // A level that fits and one that does not are brought together, by guesses first. They stay two numbers, for each turn moves one.
     fn search(&self, capacity: u32, weight: u32) -> u64
-        requires { capacity < total (length self.now.weights.now) (col self.now.weights.now) (col self.now.needs.now) top }
+        requires { capacity < given_at self.now.weights.now self.now.needs.now top }
         ensures { result ≡ level (length self.now.weights.now) (col self.now.weights.now) (col self.now.needs.now) capacity }
     {
         let mut low: u64 = 0;
@@ -52,8 +53,8 @@ impl Sharers<'_> {
     fn settled(&self, level: u64, guess: u64, high: u64) -> u64
         requires { (level < high) × (high ≤ top) }
         ensures { (level ≤ result) × (result < high)
-            × (total (length self.now.weights.now) (col self.now.weights.now) (col self.now.needs.now) result
-            ≤ total (length self.now.weights.now) (col self.now.weights.now) (col self.now.needs.now) level) }
+            × (given_at self.now.weights.now self.now.needs.now result
+            ≤ given_at self.now.weights.now self.now.needs.now level) }
     {
         if is_between(level, guess, high) || high - level <= FEW {
             return level;

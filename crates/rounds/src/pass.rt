@@ -1,6 +1,6 @@
-ghost use Rattle.std.specs.Prelude.{◌≡◌, ◌≤◌, length};
-ghost use Rattle.columns.specs.Column.{col};
-ghost use Rattle.sharing.specs.Round.{top, total};
+ghost use Rattle.std.specs.Prelude.{◌≡◌, ◌≤◌};
+ghost use Rattle.sharing.specs.Round.{top};
+ghost use Rattle.rounds.specs.Private.{given_at};
 
 use crate::rows::Sharers;
 use crate::share::share_at;
@@ -15,7 +15,7 @@ pub struct Pass {
 impl Sharers<'_> {
     pub fn pass_at(&self, level: u64) -> Pass
         requires { level ≤ top }
-        ensures { result.total ≡ total (length self.now.weights.now) (col self.now.weights.now) (col self.now.needs.now) level }
+        ensures { result.total ≡ given_at self.now.weights.now self.now.needs.now level }
     {
         let mut total: u32 = 0;
         let mut short: u32 = 0;

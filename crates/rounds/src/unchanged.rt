@@ -1,7 +1,7 @@
 // How far a level rises before a row is given more.
-ghost use Rattle.std.specs.Prelude.{◌≤◌, ◌<◌, length};
-ghost use Rattle.columns.specs.Column.{col};
-ghost use Rattle.sharing.specs.Round.{share, top, total};
+ghost use Rattle.std.specs.Prelude.{◌≤◌, ◌<◌};
+ghost use Rattle.sharing.specs.Round.{share, top};
+ghost use Rattle.rounds.specs.Private.{given_at};
 
 use crate::rows::Sharers;
 use crate::share::share_at;
@@ -11,8 +11,8 @@ impl Sharers<'_> {
     pub fn last_unchanged(&self, low: u64, high: u64) -> u64
         requires { (low < high) × (high ≤ top) }
         ensures { (low ≤ result) × (result < high)
-            × (total (length self.now.weights.now) (col self.now.weights.now) (col self.now.needs.now) result
-            ≤ total (length self.now.weights.now) (col self.now.weights.now) (col self.now.needs.now) low) }
+            × (given_at self.now.weights.now self.now.needs.now result
+            ≤ given_at self.now.weights.now self.now.needs.now low) }
     {
         let mut last = high - 1;
         for (weight, need) in self.weights.iter().zip(self.needs) {

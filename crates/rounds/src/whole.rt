@@ -1,6 +1,6 @@
-ghost use Rattle.std.specs.Prelude.{◌≡◌, length};
-ghost use Rattle.columns.specs.Column.{col};
-ghost use Rattle.sharing.specs.Round.{top, total};
+ghost use Rattle.std.specs.Prelude.{◌≡◌};
+ghost use Rattle.sharing.specs.Round.{top};
+ghost use Rattle.rounds.specs.Private.{given_at};
 
 use crate::rows::Sharers;
 use crate::share::share_at_top;
@@ -15,7 +15,7 @@ pub struct Whole {
 impl Sharers<'_> {
     // No product is needed, for at the top each row with a weight is full.
     pub fn whole(&self) -> Whole
-        ensures { result.most ≡ total (length self.now.weights.now) (col self.now.weights.now) (col self.now.needs.now) top }
+        ensures { result.most ≡ given_at self.now.weights.now self.now.needs.now top }
     {
         let mut most: u32 = 0;
         let mut weights: u32 = 0;

@@ -1,7 +1,7 @@
 // The shares of net gas.
-ghost use Rattle.std.specs.Prelude.{◌≡◌, ◌-◌, ◌≤◌, ◌<◌, length};
+ghost use Rattle.std.specs.Prelude.{◌≡◌, ◌≤◌, ◌<◌, length};
 ghost use Rattle.usegas.specs.Share.{gas_shares, total};
-ghost use Rattle.usegas.specs.Private.{Rows, Shareable, Filled};
+ghost use Rattle.usegas.specs.Private.{Shareable, Filled};
 
 use crate::schedules::Schedules;
 
