@@ -1,20 +1,14 @@
 -- Hours that a loop has written to an array, and the array once its last hour is written.
 use mathlib.Core.Path.{◌≡◌, refl, ap, sym, ◌∙◌}
 use mathlib.Core.List.{List, [], ◌∷◌}
-use mathlib.Core.Logic.{⊎_elim}
 use Prim.Native.Nat.{ℕ, zero, suc, ◌+◌, ◌≤◌, ◌<◌}
-use native.Mathlib.Nat.{eq-or-lt_of_le}
 use native.Mathlib.Omega.{arith}
-use denote.Param.Members.{Mut}
-use lib.ListN.{length, get_or, set}
-use lib.Seq.{ext_get_or}
-use Rattle.std.specs.Array.{IsFromFnResultFrom, IsFromFnResult}
-use Rattle.std.specs.Fn.{Called}
+use lib.ListN.{length, set}
 use Rattle.columns.specs.Column.{listed}
-use Rattle.columns.proofs.Lists.{length-listed, col-listed, Filling, filling_none, filling_next, filling_whole}
+use Rattle.columns.proofs.Lists.{Filling, filling_none, filling_next, filling_whole}
 use Rattle.units.specs.declared.Megajoules.{Megajoules}
 use Rattle.metered.specs.Hours.{bare_hours}
-use Rattle.metered.proofs.Rows.{figure_at, length-figures}
+use Rattle.metered.proofs.Rows.{length-figures}
 use Rattle.daymeters.specs.Hours.{megajoules}
 
 figures-set : (hours : List Megajoules) (hour : ℕ) (x : Megajoules) → bare_hours (set hours hour x) ≡ set (bare_hours hours) hour x.0
@@ -47,29 +41,3 @@ module _ (start : List Megajoules) (n : ℕ) (f : ℕ → ℕ) where
     written e l =
         sym (of_figures hours)
         ∙ ap megajoules (filling_whole (bare_hours start) f n hour (bare_hours hours) W.filling (length-figures start ∙ e) W.inside l)
-
--- ---- an array whose hours a closure gives is those hours
-module _ {F : Type 0} {g : Mut F (ℕ × Unit {0}) Megajoules} (f : F) (h : ℕ → ℕ) (list : List Megajoules) where
-  given-from : (n i : ℕ) → IsFromFnResultFrom g f list i n
-      → ((k : ℕ) (x : Megajoules) (q : F) → k < i + n → Called g f (k, tt) x q → (q ≡ f) × (x.0 ≡ h k))
-      → (k : ℕ) → i ≤ k → k < i + n → (get_or list k (record { 0 = 0 })).0 ≡ h k
-  given-from zero i each gives k a b = absurd (omega arith)
-  given-from (suc n) i (q, x, there, called, rest) gives k a b =
-      let told = gives i x q (omega arith) called in
-      ⊎_elim
-      (λ here. ap (λ k. (get_or list k (record { 0 = 0 })).0) (sym here) ∙ ap (λ x. x.0) (there.1 _) ∙ told.1 ∙ ap h here)
-      (λ l.
-      given-from n (i + 1) (rw told.0 at rest) (λ k x q c. gives k x q (omega arith)) k (omega arith) (omega arith))
-      (eq-or-lt_of_le a)
-
-  pub given : (n : ℕ) → IsFromFnResult g f list n
-      → ((k : ℕ) (x : Megajoules) (q : F) → k < n → Called g f (k, tt) x q → (q ≡ f) × (x.0 ≡ h k)) → list ≡ megajoules (listed n h)
-  given n made gives =
-      sym (of_figures list)
-      ∙ ap megajoules
-      (ext_get_or 0 (bare_hours list) (listed n h) (length-figures list ∙ made.long ∙ sym (length-listed n h))
-      (λ k l.
-      let inside : k < n = omega (arith, length-figures list, made.long) in
-      sym (figure_at list k)
-      ∙ given-from n 0 made.each (λ k x q c. gives k x q (omega arith)) k (omega arith) (omega arith)
-      ∙ sym (col-listed n h k inside)))

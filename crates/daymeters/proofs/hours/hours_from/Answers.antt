@@ -1,14 +1,13 @@
--- The closure gives each hour.
-use borrow.Author.Tests.{tests}
-use Prim.Native.Nat.{ℕ, ◌+◌}
-use Rattle.std.proofs.Common.{rules}
-use Rattle.columns.specs.Column.{col}
-use Rattle.dayvalues.specs.Row.{number_at}
-use Rattle.daymeters.proofs.Writing.{given}
+use lib.ListN.{length-replicate}
+use Rattle.daymeters.proofs.Writing.{writing_none, writing_next, written}
 use Rattle.daymeters.proofs.hours.hours_from.Goals as goal
 
+pub loop-hour-init : goal.loop-hour-init
+loop-hour-init g c = writing_none _ _ _
+
+pub loop-hour-preserved : goal.loop-hour-preserved
+loop-hour-preserved g c =
+    writing_next _ _ _ _ _ c.loop-hour.invariant _ c.loop-hour-test.true c.megajoules_at.ensures
+
 pub returns : goal.returns
-returns g c =
-    let args = c.args in
-    let hour = λ (k : ℕ). number_at args.counts (col args.numbers.now) args.tag args.row (args.at + k) in
-    given _ hour c.from_fn.result g.row.N c.from_fn.ensures.items (λ k x q l h. search (rules, tests))
+returns g c = written _ _ _ _ _ c.loop-hour.invariant (length-replicate g.row.N (record { 0 = 0 })) c.loop-hour-test.false
