@@ -7,7 +7,7 @@ ghost use Rattle.cormcushion.specs.Meter.{side_of, shipper_day, overrun_figures,
 ghost use Rattle.cormcushion.specs.Meter.{of_charge, with_charge, of_overruns, with_overruns, excused_of};
 ghost use Rattle.cormcushion.specs.Meter.{PricePacked, ChargePacked, ExcusedChargePacked};
 
-use crate::hours::{hours_of_today, hours_of_yesterday};
+use crate::hours::hours_of;
 use crate::packed::{accepted, refused};
 use metered::Side;
 use overruns::{Overruns, metered_overruns, overruns_of_day};
@@ -97,11 +97,11 @@ fn metered_of(
         (shipper_day p m yesterday.now delivered.now received.now
         schedules.now metered.now) }
 {
-    let both = [hours_of_today(delivered), hours_of_today(received)];
+    let both = [hours_of(delivered), hours_of(received)];
     metered_overruns(
         Gigajoules(p),
         Gigajoules(m),
-        hours_of_yesterday(yesterday),
+        hours_of(yesterday),
         both,
         side_of(schedules, metered, 0),
         side_of(schedules, metered, 1),
@@ -126,19 +126,16 @@ fn overruns_of(
         schedules.now metered.now)
         (excused_of excused_yesterday.now excused_delivered.now excused_received.now) }
 {
-    let both = [hours_of_today(delivered), hours_of_today(received)];
-    let excused = [
-        hours_of_today(excused_delivered),
-        hours_of_today(excused_received),
-    ];
+    let both = [hours_of(delivered), hours_of(received)];
+    let excused = [hours_of(excused_delivered), hours_of(excused_received)];
     overruns_of_day(
         Gigajoules(p),
         Gigajoules(m),
-        hours_of_yesterday(yesterday),
+        hours_of(yesterday),
         both,
         side_of(schedules, metered, 0),
         side_of(schedules, metered, 1),
-        hours_of_yesterday(excused_yesterday),
+        hours_of(excused_yesterday),
         excused,
     )
 }

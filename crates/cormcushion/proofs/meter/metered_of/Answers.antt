@@ -6,9 +6,9 @@ pub returns : goal.returns
 returns c =
     c.metered_overruns.ensures
     ∙ rw (
-      c.hours_of_today.ensures,
-      c.hours_of_today-2.ensures,
-      c.hours_of_yesterday.ensures,
+      c.hours_of.ensures,
+      c.hours_of-2.ensures,
+      c.hours_of-3.ensures,
       c.side_of.ensures,
       c.side_of-2.ensures,
     )
