@@ -16,7 +16,7 @@ pub struct Sharing<'a> {
 }
 
 impl<'a> Sharing<'a> {
-    pub fn new(capacity: u64, entitlements: &'a [u64], mdqs: &'a [u32]) -> Self
+    pub(crate) fn new(capacity: u64, entitlements: &'a [u64], mdqs: &'a [u32]) -> Self
         requires { Shareable capacity (totals entitlements.now mdqs.now) entitlements.now mdqs.now }
         ensures capacity { result.capacity ≡ capacity }
         ensures entitlements { result.entitlements.now ≡ entitlements.now }
@@ -52,7 +52,7 @@ impl<'a> Sharing<'a> {
     }
 
     // Writes each shipper's share to the front of `shares`, and returns what they are given together.
-    pub fn fill(&self, shares: &mut [u64]) -> u64
+    pub(crate) fn fill(&self, shares: &mut [u64]) -> u64
         requires { length self.now.entitlements.now ≤ length shares.old }
         ensures { Filled self.now.capacity self.now.entitlements.now self.now.mdqs.now shares.old result shares.new }
     {

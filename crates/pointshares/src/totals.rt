@@ -9,7 +9,7 @@ pub struct Totals {
 }
 
 impl Totals {
-    pub fn of(entitlements: &[u64], mdqs: &[u32]) -> Self
+    pub(crate) fn of(entitlements: &[u64], mdqs: &[u32]) -> Self
         requires { Rows entitlements.now mdqs.now }
         ensures { result ≡ totals entitlements.now mdqs.now }
     {

@@ -7,7 +7,7 @@ use crate::share::share_at;
 
 impl Sharers<'_> {
     // Writes what a level gives each row to the front of `shares`, and returns what it gives them together.
-    pub fn fill(&self, level: u64, shares: &mut [u32]) -> u32
+    pub(crate) fn fill(&self, level: u64, shares: &mut [u32]) -> u32
         requires { (level ≤ top) × (length self.now.weights.now ≤ length shares.old) }
         ensures { Filled self.now.weights.now self.now.needs.now level shares.old result shares.new }
     {

@@ -12,7 +12,7 @@ const FEW: u64 = 3;
 
 impl Sharers<'_> {
     // The level of a round: the top where all that can be met is met there, else by a search below it.
-    pub fn level_of(&self, capacity: u32) -> u64
+    pub(crate) fn level_of(&self, capacity: u32) -> u64
         ensures { result ≡ level (length self.now.weights.now) (col self.now.weights.now) (col self.now.needs.now) capacity }
     {
         let whole = self.whole();

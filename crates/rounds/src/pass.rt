@@ -13,7 +13,7 @@ pub struct Pass {
 }
 
 impl Sharers<'_> {
-    pub fn pass_at(&self, level: u64) -> Pass
+    pub(crate) fn pass_at(&self, level: u64) -> Pass
         requires { level ≤ top }
         ensures { result.total ≡ given_at self.now.weights.now self.now.needs.now level }
     {

@@ -8,7 +8,7 @@ use crate::share::share_at;
 
 impl Sharers<'_> {
     // The last level below `high` at which no row is given more than at `low`.
-    pub fn last_unchanged(&self, low: u64, high: u64) -> u64
+    pub(crate) fn last_unchanged(&self, low: u64, high: u64) -> u64
         requires { (low < high) × (high ≤ top) }
         ensures { (low ≤ result) × (result < high)
             × (given_at self.now.weights.now self.now.needs.now result

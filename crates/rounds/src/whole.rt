@@ -14,7 +14,7 @@ pub struct Whole {
 
 impl Sharers<'_> {
     // No product is needed, for at the top each row with a weight is full.
-    pub fn whole(&self) -> Whole
+    pub(crate) fn whole(&self) -> Whole
         ensures { result.most ≡ given_at self.now.weights.now self.now.needs.now top }
     {
         let mut most: u32 = 0;

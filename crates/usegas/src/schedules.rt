@@ -13,7 +13,7 @@ pub struct Schedules<'a> {
 impl Schedules<'_> {
     // A row's schedule, and none of the Foundation Shipper's.
     #[tactic(auto, unfolding(crate::specs::Share::weights))]
-    pub fn weight_at(&self, row: usize) -> u32
+    pub(crate) fn weight_at(&self, row: usize) -> u32
         requires { row < length self.now.rows.now }
         ensures { result ≡ weights self.now.foundation self.now.rows.now row }
     {
@@ -24,7 +24,7 @@ impl Schedules<'_> {
     }
 
     // The schedule total.
-    pub fn total(&self) -> u32
+    pub(crate) fn total(&self) -> u32
         requires { Rows self.now.rows.now }
         ensures { result ≡ total self.now.foundation self.now.rows.now }
     {

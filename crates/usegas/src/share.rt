@@ -15,7 +15,7 @@ pub struct Sharing<'a> {
 }
 
 impl<'a> Sharing<'a> {
-    pub fn new(net: u64, schedules: Schedules<'a>) -> Self
+    pub(crate) fn new(net: u64, schedules: Schedules<'a>) -> Self
         requires { Shareable net (total schedules.foundation schedules.rows.now) schedules.foundation schedules.rows.now }
         ensures net { result.net ≡ net }
         ensures schedules { result.schedules ≡ schedules.entry }
@@ -40,7 +40,7 @@ impl<'a> Sharing<'a> {
     }
 
     // Writes each shipper's share to the front of `shares`, and returns what they supply together.
-    pub fn fill(&self, shares: &mut [u64]) -> u64
+    pub(crate) fn fill(&self, shares: &mut [u64]) -> u64
         requires { length self.now.schedules.rows.now ≤ length shares.old }
         ensures { Filled self.now.net self.now.schedules.foundation self.now.schedules.rows.now shares.old result shares.new }
     {
