@@ -1,4 +1,5 @@
 // Each tag's body read kind by kind: with the kinds named, widths and bounds are constants.
+// One routine that takes the kinds from a tag's data was tried: a full file takes 1.4 times as long (docs/SPEED.md).
 ghost use Rattle.dayformat.specs.Format.{body};
 ghost use Rattle.dayruns.specs.Private.{KindsRead, BodyRoom, BodyRead};
 

@@ -7,8 +7,8 @@ ghost use Rattle.dayruns.specs.Walk.{file_check};
 ghost use Rattle.dayfile.specs.File.{walked};
 ghost use Rattle.dayfile.specs.Answer.{Reads};
 ghost use Rattle.pointlisting.specs.PointsText.{day_line, point_lines, points_text, points_listing};
-ghost use Rattle.pointlisting.specs.Private.{Readable};
 
+use crate::day::Points;
 use crate::point::put_point;
 use dayfile::read_day;
 use dayformat::{Day, MOST_NUMBERS, numbers_of};
@@ -38,59 +38,39 @@ fn put_day(day: u32, text: &mut [u8], at: usize) -> usize
 }
 
 // The lines of each point.
-fn put_each<'a>(
-    day: Day,
-    numbers: &[usize],
-    receipt: &'a [u8],
-    delivery: &'a [u8],
-    text: &mut [u8],
-    at: usize,
-) -> usize
-    requires { Readable day numbers.now receipt.now delivery.now × (at ≤ length text.old + 4096) }
-    ensures { (Laid (joined day.counts.points (point_lines day.counts (col numbers.now)))
+fn put_each(points: &Points, text: &mut [u8], at: usize) -> usize
+    requires { at ≤ length text.old + 4096 }
+    ensures { (Laid (joined points.now.day.counts.points (point_lines points.now.day.counts (col points.now.numbers.now)))
         text.old at result text.new) × (result ≤ 2 ^ 26) }
 {
     let mut size = 0;
-    for row in 0..day.counts.points {
-        size += put_point(day, numbers, receipt, delivery, row, text, at + size);
+    for row in 0..points.day.counts.points {
+        size += put_point(points, row, text, at + size);
     }
     size
 }
 
 // The whole text: the day's line, then those of each point.
-fn put_points<'a>(
-    day: Day,
-    numbers: &[usize],
-    receipt: &'a [u8],
-    delivery: &'a [u8],
-    text: &mut [u8],
-    at: usize,
-) -> usize
-    requires { Readable day numbers.now receipt.now delivery.now × (at ≤ length text.old) }
-    ensures { Laid (points_text day (col numbers.now)) text.old at result text.new }
+fn put_points(points: &Points, text: &mut [u8], at: usize) -> usize
+    requires { at ≤ length text.old }
+    ensures { Laid (points_text points.now.day (col points.now.numbers.now)) text.old at result text.new }
 {
-    let head = day.head;
+    let head = points.day.head;
     let size = put_day(head.day, text, at);
-    size + put_each(day, numbers, receipt, delivery, text, at + size)
+    size + put_each(points, text, at + size)
 }
 
 // The text to the front of the block; 7 exactly when it is longer. Laid from the block's end on, it is only counted.
-fn lay_points<'a>(
-    day: Day,
-    numbers: &[usize],
-    receipt: &'a [u8],
-    delivery: &'a [u8],
-    lent: &mut [u8],
-) -> Result<usize, Refusal>
-    requires { Readable day numbers.now receipt.now delivery.now }
-    ensures { ListingAnswered (Ok tt) (points_text day (col numbers.now)) lent.old lent.new result }
+fn lay_points(points: &Points, lent: &mut [u8]) -> Result<usize, Refusal>
+    ensures { ListingAnswered (Ok tt) (points_text points.now.day (col points.now.numbers.now))
+        lent.old lent.new result }
 {
     let room = lent.len();
-    let size = put_points(day, numbers, receipt, delivery, lent, room);
+    let size = put_points(points, lent, room);
     if room < size {
         return Err(Refusal::plain(7));
     }
-    put_points(day, numbers, receipt, delivery, lent, 0);
+    put_points(points, lent, 0);
     Ok(size)
 }
 
@@ -104,5 +84,11 @@ fn list_day(day: Day, numbers: &[usize], file: &[u8], lent: &mut [u8]) -> Result
     let end = entries_end(counts);
     let entries = &file[start..end];
     let split = first_delivery(entries);
-    lay_points(day, numbers, &entries[..split], &entries[split..], lent)
+    let points = Points {
+        day,
+        numbers,
+        receipt: &entries[..split],
+        delivery: &entries[split..],
+    };
+    lay_points(&points, lent)
 }

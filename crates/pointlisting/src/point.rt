@@ -3,9 +3,9 @@ ghost use Rattle.std.specs.Prelude.{◌+◌, ◌^◌, ◌≤◌, ◌<◌, length
 ghost use Rattle.columns.specs.Column.{col};
 ghost use Rattle.text.specs.Text.{Laid};
 ghost use Rattle.pointlisting.specs.PointsText.{point_line, point_lines};
-ghost use Rattle.pointlisting.specs.Private.{Readable};
 
-use dayformat::{Day, Tag};
+use crate::day::Points;
+use dayformat::Tag;
 use dayvalues::number_at;
 use lines::{put_line, put_word};
 use pointentries::entries_of_point;
@@ -23,26 +23,18 @@ fn put_title(side: u64, point: u64, capacity: u64, text: &mut [u8], at: usize) -
 }
 
 // A row of the point table: its line, then those of its entries, which stand in the list of its side.
-pub fn put_point<'a>(
-    day: Day,
-    numbers: &[usize],
-    receipt: &'a [u8],
-    delivery: &'a [u8],
-    row: u32,
-    text: &mut [u8],
-    at: usize,
-) -> usize
-    requires { Readable day numbers.now receipt.now delivery.now
-        × (row < day.counts.points) × (at ≤ length text.old + 2 ^ 31) }
-    ensures { (Laid (point_lines day.counts (col numbers.now) row)
+pub fn put_point(points: &Points, row: u32, text: &mut [u8], at: usize) -> usize
+    requires { (row < points.now.day.counts.points) × (at ≤ length text.old + 2 ^ 31) }
+    ensures { (Laid (point_lines points.now.day.counts (col points.now.numbers.now) row)
         text.old at result text.new) × (result ≤ 2 ^ 21) }
 {
-    let counts = day.counts;
+    let counts = points.day.counts;
+    let numbers = points.numbers;
     let side = number_at(counts, numbers, Tag::Point, row, 0);
     let point = number_at(counts, numbers, Tag::Point, row, 1);
     let capacity = number_at(counts, numbers, Tag::Point, row, 2);
     let size = put_title(side as u64, point as u64, capacity as u64, text, at);
-    let part = entries_of_point(receipt, delivery, side as u8, point as u16);
+    let part = entries_of_point(points.receipt, points.delivery, side as u8, point as u16);
     size + put_hour(
         counts,
         numbers,

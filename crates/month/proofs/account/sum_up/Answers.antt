@@ -18,9 +18,9 @@ module _ (A : Account) {row : ℕ} (l : row < length (take A.count A.days)) wher
   few : row < A.count
   few = omega (arith, l, length-take A.count A.days)
 
-  with-day : {added : Figures} → added ≡ sums row (day_at A)
+  adds-day : {added : Figures} → added ≡ sums row (day_at A)
       → plus added (get_or (take A.count A.days) row no_day).figures ≡ plus (sums row (day_at A)) (day_at A row).figures
-  with-day is =
+  adds-day is =
       ap (λ added. plus added (get_or (take A.count A.days) row no_day).figures) is
       ∙ ap (λ day. plus (sums row (day_at A)) day.figures) (get_or-take A.count A.days row no_day few)
 
@@ -34,12 +34,12 @@ pub plus-sums-requires : goal.plus-sums-requires
 plus-sums-requires c =
     let A = c.args.account in
     let l = c.loop-day-test.true in
-    subst Small (sym (with-day A l c.loop-day.invariant)) (sums-small (day_at A) c.loop-day.day-index A.count c.requires (few A l))
+    subst Small (sym (adds-day A l c.loop-day.invariant)) (sums-small (day_at A) c.loop-day.day-index A.count c.requires (few A l))
 
 pub loop-day-preserved : goal.loop-day-preserved
 loop-day-preserved c =
     let A = c.args.account in
-    c.plus-sums.ensures ∙ with-day A c.loop-day-test.true c.loop-day.invariant ∙ sums-next (day_at A) c.loop-day.day-index
+    c.plus-sums.ensures ∙ adds-day A c.loop-day-test.true c.loop-day.invariant ∙ sums-next (day_at A) c.loop-day.day-index
 
 pub returns : goal.returns
 returns c =

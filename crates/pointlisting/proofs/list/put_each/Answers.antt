@@ -14,21 +14,20 @@ loop-row-init c = (omega arith, texts_none _)
 
 pub overflow_add-at : goal.overflow_add-at
 overflow_add-at c =
-    let few : c.args.day.counts.points ≤ 32 = c.requires.0.sound.few Point in
-    omega (arith, c.loop-row.invariant.0, c.loop-row-test.true, few, c.requires.1)
+    let few : c.args.points.now.day.counts.points ≤ 32 = c.args.points.now.readable.sound.few Point in
+    omega (arith, c.loop-row.invariant.0, c.loop-row-test.true, few, c.requires)
 
 pub put_point-size-requires : goal.put_point-size-requires
 put_point-size-requires c =
-    let few : c.args.day.counts.points ≤ 32 = c.requires.0.sound.few Point in
+    let few : c.args.points.now.day.counts.points ≤ 32 = c.args.points.now.readable.sound.few Point in
     let now = c.loop-row in (
-      c.requires.0,
       c.loop-row-test.true,
-      omega (arith, now.invariant.0, c.loop-row-test.true, few, c.requires.1, laid-long now.invariant.1),
+      omega (arith, now.invariant.0, c.loop-row-test.true, few, c.requires, laid-long now.invariant.1),
     )
 
 pub overflow_add-size : goal.overflow_add-size
 overflow_add-size c =
-    let few : c.args.day.counts.points ≤ 32 = c.requires.0.sound.few Point in
+    let few : c.args.points.now.day.counts.points ≤ 32 = c.args.points.now.readable.sound.few Point in
     omega (arith, c.loop-row.invariant.0, c.loop-row-test.true, few, c.put_point-size.ensures.1)
 
 pub loop-row-preserved : goal.loop-row-preserved
@@ -43,11 +42,11 @@ shape_of-text c = laid-long c.loop-row.invariant.1
 
 pub returns : goal.returns
 returns c =
-    let few : c.args.day.counts.points ≤ 32 = c.requires.0.sound.few Point in
+    let few : c.args.points.now.day.counts.points ≤ 32 = c.args.points.now.readable.sound.few Point in
     let now = c.loop-row in
     let args = c.args in
-    let all : now.row ≡ args.day.counts.points = le_antisymm now.auto.row-end c.loop-row-test.false in (
-      subst (λ many. Laid (joined many (point_lines args.day.counts (col args.numbers.now))) args.text.now args.at
+    let all : now.row ≡ args.points.now.day.counts.points = le_antisymm now.auto.row-end c.loop-row-test.false in (
+      subst (λ many. Laid (joined many (point_lines args.points.now.day.counts (col args.points.now.numbers.now))) args.text.now args.at
           now.size now.text) all now.invariant.1,
       omega (arith, now.invariant.0, all, few),
     )

@@ -8,4 +8,4 @@ use Rattle.pointlisting.proofs.list.put_each.Given as goal
 abbrev pub invariant-loop-row : goal.invariant-loop-row
 invariant-loop-row l =
     (l.size ≤ 2 ^ 21 * l.row)
-    × Laid (joined l.row (point_lines l.day.counts (col l.numbers))) l.initial.text l.at l.size l.text
+    × Laid (joined l.row (point_lines l.points.day.counts (col l.points.numbers.now))) l.initial.text l.at l.size l.text
