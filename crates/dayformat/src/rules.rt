@@ -27,7 +27,8 @@ pub struct Cap {
     pub under: usize,
 }
 
-// How many names a row has at most. What fills up fewer says nothing: the head's key is empty. An array, no slice: dayruns reads its places.
+// How many names a row has at most. What fills up fewer says nothing: the head's key is empty.
+// The contract of `names_of` and `mdqs_of` is an array's and may not change: dayruns reads its places.
 pub const NAMES: usize = 2;
 
 const NO_NAME: Name = Name {

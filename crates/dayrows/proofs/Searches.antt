@@ -1,4 +1,4 @@
--- Whether a search finds a marked row among n.
+-- Whether a search finds a marked row among n, by a loop and by an iterator.
 use mathlib.Core.Path.{◌≡◌, refl, ap, sym, ◌∙◌}
 use mathlib.Core.Bool.{Bool, true, false, cond, not, ◌&&◌, ◌||◌, true≢false}
 use Prim.Native.Nat.{ℕ, zero, suc, ◌+◌, ◌≤◌, ◌<◌}
@@ -19,18 +19,9 @@ use Rattle.std.proofs.iter.Yields.{nat_range_steps}
 use Rattle.std.proofs.lemmas.Iterator.{YieldsList-from_range, first_from_Range}
 use Rattle.std.proofs.lemmas.Iterator.Search.{any_from_yields_List, all_from_yields_List}
 use Rattle.columns.specs.First.{first_from, first}
-use Rattle.columns.proofs.Firsts.{Searched, first_found, first-none, first-passed, stops, ends}
+use Rattle.columns.proofs.Firsts.{Searched, first_found, first-none, first-passed, ends}
 
 module _ (p : ℕ → Bool) (n row : ℕ) (S : Searched p n row) where
-  pub found : row < n → p row ≡ true → ltb (first n p) n ≡ true
-  found l e = lt-ltb (first n p) n (omega (arith, stops p n row S l e))
-
-  pub not_clear : row < n → p row ≡ true → leb n (first n p) ≡ false
-  not_clear l e = lt-leb n (first n p) (omega (arith, stops p n row S l e))
-
-  pub missing : n ≤ row → ltb (first n p) n ≡ false
-  missing l = le-ltb (first n p) n (omega (arith, ends p n row S l))
-
   pub clear : n ≤ row → leb n (first n p) ≡ true
   clear l = le-leb n (first n p) (omega (arith, ends p n row S l))
 
@@ -93,10 +84,14 @@ module _ {F : Type 0} (p : ℕ → Bool) (n : ℕ) (f : F) (u : Range ℕ) where
 
   pub find-first : {g : Mut F (Bor ℕ × Unit {0}) Bool} (r : Option ℕ) → FindsItem nat_range_steps g (record { start = 0; end = n }) f r u
       → ((x : ℕ) (b : Bool) (q : F) → CalledAt g f x b q → (q ≡ f) × (b ≡ p x)) → unwrap_or r n ≡ first n p
-  find-first r ran closure = by r (first_from_Range (record { start = 0; end = n }) u f r (λ x. p x ≡ true) (λ x. p x ≡ false) ran
-      (λ x q k. sym (closure x true q k).1) (λ x q k. ((closure x false q k).0, sym (closure x false q k).1)))
+  find-first r ran closure =
+      by r
+      (first_from_Range (record { start = 0; end = n }) u f r (λ x. p x ≡ true) (λ x. p x ≡ false) ran
+      (λ x q k. sym (closure x true q k).1)
+      (λ x q k. ((closure x false q k).0, sym (closure x false q k).1)))
     where
-      by : (r : Option ℕ) → MatchOption r ((k : ℕ) → 0 ≤ k → k < n → p k ≡ false) (λ i. (0 ≤ i) × (i < n) × (p i ≡ true) × ((k : ℕ) → 0 ≤ k → k < i → p k ≡ false))
+      by : (r : Option ℕ) → MatchOption r ((k : ℕ) → 0 ≤ k → k < n → p k ≡ false)
+          (λ i. (0 ≤ i) × (i < n) × (p i ≡ true) × ((k : ℕ) → 0 ≤ k → k < i → p k ≡ false))
           → unwrap_or r n ≡ first n p
       by None none = sym (first-none p n (λ k l. none k (omega arith) l))
       by (Some i) h = sym (first_found p n i h.1 (λ k l. h.3 k (omega arith) l) h.2)
