@@ -11,8 +11,8 @@ fn put<W: Write>(out: &mut W, figure: u64) -> Result<()> {
 
 // Figures one after another.
 fn put_figures<W: Write>(out: &mut W, figures: &[u64]) -> Result<()> {
-    for place in 0..figures.len() {
-        put(out, figures[place])?;
+    for figure in figures {
+        put(out, *figure)?;
     }
     Ok(())
 }

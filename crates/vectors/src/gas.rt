@@ -1,7 +1,6 @@
 // An hour at a point, and system use gas.
 use crate::lines::{put_figures, put_megajoules, put_refusal};
 use crate::words::{MOST_ROWS, list, megajoules_of, past, past_list, signed, wide, word};
-use columns::lesser;
 use pointshares::Hour;
 use std::io::{Result, Write};
 use units::{Gigajoules, Megajoules};
@@ -12,11 +11,11 @@ const LENT: u64 = 4_000_000_000;
 
 pub fn answer_hour<W: Write>(out: &mut W, case: &[u32]) -> Result<()> {
     let mut shares = [LENT; MOST_ROWS];
-    let room = lesser(word(case, 2) as usize, MOST_ROWS);
+    let room = (word(case, 2) as usize).min(MOST_ROWS);
     let entitlements = past(case, 3);
     let pairs = list(entitlements);
     let figures = megajoules_of(pairs);
-    let rows = lesser(pairs.len() / 2, MOST_ROWS);
+    let rows = (pairs.len() / 2).min(MOST_ROWS);
     let hour = pointshares::share_hour(
         Megajoules(wide(case, 0)),
         &figures[0..rows],
@@ -30,12 +29,12 @@ pub fn answer_hour<W: Write>(out: &mut W, case: &[u32]) -> Result<()> {
             put_figures(out, &[0, 0, given.0])?;
         }
     }
-    put_megajoules(out, &shares, room)
+    put_megajoules(out, &shares[..room])
 }
 
 pub fn answer_general<W: Write>(out: &mut W, case: &[u32]) -> Result<()> {
     let mut shares = [LENT; MOST_ROWS];
-    let room = lesser(word(case, 6) as usize, MOST_ROWS);
+    let room = (word(case, 6) as usize).min(MOST_ROWS);
     let gas = usegas::share_general(
         Megajoules(wide(case, 0)),
         Megajoules(wide(case, 2)),
@@ -45,12 +44,12 @@ pub fn answer_general<W: Write>(out: &mut W, case: &[u32]) -> Result<()> {
     );
     out.write_all(b"share_general")?;
     put_gas(out, gas)?;
-    put_megajoules(out, &shares, room)
+    put_megajoules(out, &shares[..room])
 }
 
 pub fn answer_heater<W: Write>(out: &mut W, case: &[u32]) -> Result<()> {
     let mut shares = [LENT; MOST_ROWS];
-    let room = lesser(word(case, 2) as usize, MOST_ROWS);
+    let room = (word(case, 2) as usize).min(MOST_ROWS);
     let gas = usegas::share_heater(
         Megajoules(wide(case, 0)),
         list(past(case, 3)),
@@ -58,7 +57,7 @@ pub fn answer_heater<W: Write>(out: &mut W, case: &[u32]) -> Result<()> {
     );
     out.write_all(b"share_heater")?;
     put_gas(out, gas)?;
-    put_megajoules(out, &shares, room)
+    put_megajoules(out, &shares[..room])
 }
 
 fn put_gas<W: Write>(out: &mut W, gas: UseGas) -> Result<()> {
