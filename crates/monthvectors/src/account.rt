@@ -42,10 +42,8 @@ pub fn account_in(case: &[u8]) -> Account {
     let mut account = Account::empty();
     account.count = wide(case, ACCOUNT) as usize;
     let told = told_in(case);
-    let mut row = 0;
-    while row < told {
+    for row in 0..told {
         account.days[row] = day_at(case, DAYS + DAY * row as u16);
-        row += 1;
     }
     account
 }

@@ -1,8 +1,7 @@
 // A line of the answers: 01's number and place, the figures, the lent block whole, and the account as it is afterwards.
 ghost use Rattle.std.specs.Prelude.{◌≤◌};
 
-use columns::lesser;
-use month::{Account, AccountDay, Closed, Figures, MOST_DAYS, Taken, Totalled};
+use month::{Account, AccountDay, Closed, Figures, Taken, Totalled};
 use std::io::{self, Write};
 use units::Refusal;
 
@@ -19,8 +18,8 @@ fn put<W: Write>(out: &mut W, figure: u64) -> io::Result<()> {
 
 // Figures one after another.
 pub fn put_figures<W: Write>(out: &mut W, figures: &[u64]) -> io::Result<()> {
-    for place in 0..figures.len() {
-        put(out, figures[place])?;
+    for figure in figures {
+        put(out, *figure)?;
     }
     Ok(())
 }
@@ -97,22 +96,18 @@ pub fn put_closed<W: Write>(
 // A lent block as it is after the call, in hexadecimal.
 fn put_block<W: Write>(out: &mut W, lent: &[u8; MOST_ROOM], room: usize) -> io::Result<()> {
     out.write_all(b" :")?;
-    for place in 0..lesser(room, MOST_ROOM) {
-        put_byte(out, lent[place])?;
+    for byte in &lent[..room.min(MOST_ROOM)] {
+        streams::print_hex(out, *byte)?;
     }
     Ok(())
-}
-
-fn put_byte<W: Write>(out: &mut W, byte: u8) -> io::Result<()> {
-    streams::print_hex(out, byte)
 }
 
 // Its count, then its days up to the last that is not all zeros.
 pub fn put_account<W: Write>(out: &mut W, account: Account) -> io::Result<()> {
     out.write_all(b" :")?;
     put(out, account.count as u64)?;
-    for row in 0..told_of(account) {
-        put_day(out, account.days[row])?;
+    for day in &account.days[..told_of(account)] {
+        put_day(out, *day)?;
     }
     Ok(())
 }
@@ -120,24 +115,15 @@ pub fn put_account<W: Write>(out: &mut W, account: Account) -> io::Result<()> {
 fn told_of(account: Account) -> usize
     ensures { result ≤ 31 }
 {
-    let mut told = MOST_DAYS;
-    while 0 < told {
-        if is_told(account.days[told - 1]) {
-            return told;
-        }
-        told -= 1;
+    match account.days.iter().rposition(|day| is_told(*day)) {
+        Some(last) => last + 1,
+        None => 0,
     }
-    told
 }
 
 fn is_told(day: AccountDay) -> bool {
     let numbers = numbers_of(day);
-    for place in 0..8usize {
-        if 0 < numbers[place] {
-            return true;
-        }
-    }
-    false
+    numbers.iter().any(|number| 0 < *number)
 }
 
 fn put_day<W: Write>(out: &mut W, day: AccountDay) -> io::Result<()> {

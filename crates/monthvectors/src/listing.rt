@@ -26,9 +26,5 @@ fn count_in(case: &[u8]) -> usize
 }
 
 fn numbers_in(case: &[u8]) -> [u64; MOST_NUMBERS] {
-    let mut numbers = [0u64; MOST_NUMBERS];
-    for place in 0..MOST_NUMBERS {
-        numbers[place] = wide(case, 2 + 2 * place as u16);
-    }
-    numbers
+    std::array::from_fn(|place| wide(case, 2 + 2 * place as u16))
 }

@@ -18,8 +18,8 @@ fn put<W: Write>(out: &mut W, figure: u64) -> io::Result<()> {
 
 // Figures one after another.
 fn put_figures<W: Write>(out: &mut W, figures: &[u64]) -> io::Result<()> {
-    for place in 0..figures.len() {
-        put(out, figures[place])?;
+    for figure in figures {
+        put(out, *figure)?;
     }
     Ok(())
 }

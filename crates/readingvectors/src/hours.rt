@@ -20,11 +20,7 @@ pub fn answer_meter_day<W: Write>(out: &mut W, case: &[u8]) -> Result<()> {
 }
 
 fn readings_in(case: &[u8]) -> [HourReading; 24] {
-    let mut readings = [HourReading::Missing; 24];
-    for hour in 0..24usize {
-        readings[hour] = reading_at(case, 1 + HOUR * hour as u16);
-    }
-    readings
+    std::array::from_fn(|hour| reading_at(case, 1 + HOUR * hour as u16))
 }
 
 fn reading_at(case: &[u8], place: u16) -> HourReading

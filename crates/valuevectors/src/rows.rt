@@ -3,6 +3,7 @@ use crate::answers::{put_check, put_figures, put_refusal};
 use crate::case::word;
 use dayformat::{Counts, Tag};
 use std::io::{self, Write};
+use units::Refusal;
 
 // The tables' tags: 2 to 5, and 9.
 fn tag_of(tag: u32) -> Tag {

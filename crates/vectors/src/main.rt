@@ -8,17 +8,17 @@ mod meters;
 mod shares;
 mod words;
 
-use columns::lesser;
 use std::io::{Read, Result, Write};
 use words::{MOST_WORDS, past, word, words_of};
 
-// A proved loop has to end, and nothing says that the input does: it counts down from a number that no run uses up.
+// A proved loop has to end, and nothing says that the input does: it takes at most so many turns as no run uses up.
 fn main(rt: HostRuntime) -> Result<()> {
     let mut input = rt.stdin();
     let mut out = rt.stdout();
-    let mut turns = u64::MAX;
-    while 0 < turns && answer_next(&mut input, &mut out)? {
-        turns -= 1;
+    for _ in 0..u64::MAX {
+        if !answer_next(&mut input, &mut out)? {
+            break;
+        }
     }
     Ok(())
 }
@@ -29,7 +29,7 @@ fn answer_next<R: Read, W: Write>(input: &mut R, out: &mut W) -> Result<bool> {
     if streams::read_full(input, &mut head)? < 4 {
         return Ok(false);
     }
-    let count = lesser(bigendian::number_at(&head, 0, 4) as usize, MOST_WORDS);
+    let count = (bigendian::number_at(&head, 0, 4) as usize).min(MOST_WORDS);
     let mut body = [0u8; 4 * MOST_WORDS];
     streams::read_full(input, &mut body[0..4 * count])?;
     let words = words_of(&body);

@@ -1,16 +1,19 @@
 // The overruns of a day.
+ghost use Rattle.std.specs.Prelude.{◌≤◌};
+
 use crate::lines::{put_figures, put_refusal};
 use crate::words::{MOST_ROWS, list, megajoules_of, past, past_list, wide, word};
-use columns::lesser;
 use metered::Side;
 use overruns::Overruns;
 use std::io::{self, Write};
-use units::{Gigajoules, Megajoules};
+use units::{Gigajoules, Megajoules, Refusal};
 
-// The hours of one side: 24 pairs of words.
-fn hours_of(case: &[u32]) -> [Megajoules; 24] {
-    let mut hours = [Megajoules(0); 24];
-    for hour in 0..24usize {
+// Hours, a pair of words each: yesterday's 11, or the 24 of one side.
+fn hours_of<const N: usize>(case: &[u32]) -> [Megajoules; N]
+    requires { N ≤ 24 }
+{
+    let mut hours = [Megajoules(0); N];
+    for hour in 0..N {
         hours[hour] = Megajoules(wide(case, 2 * hour));
     }
     hours
@@ -21,15 +24,6 @@ fn sides_of(case: &[u32]) -> [[Megajoules; 24]; 2] {
     let delivered = hours_of(case);
     let received = hours_of(past(case, 48));
     [delivered, received]
-}
-
-// Yesterday's hours: 11 pairs of words.
-fn yesterday_of(case: &[u32]) -> [Megajoules; 11] {
-    let mut hours = [Megajoules(0); 11];
-    for hour in 0..11usize {
-        hours[hour] = Megajoules(wide(case, 2 * hour));
-    }
-    hours
 }
 
 // A side's single figures: schedules, forward and backhaul, and the backhaul metered.
@@ -62,10 +56,10 @@ pub fn answer_twelve_hourly<W: Write>(out: &mut W, case: &[u32]) -> io::Result<(
     let lists = past(case, 2);
     let pairs = list(lists);
     let figures = megajoules_of(pairs);
-    let hours = lesser(pairs.len() / 2, MOST_ROWS);
+    let hours = (pairs.len() / 2).min(MOST_ROWS);
     let excused_pairs = list(past_list(lists));
     let excused_figures = megajoules_of(excused_pairs);
-    let excused_hours = lesser(excused_pairs.len() / 2, MOST_ROWS);
+    let excused_hours = (excused_pairs.len() / 2).min(MOST_ROWS);
     let overrun = overruns::twelve_hourly_overrun(
         Gigajoules(word(case, 0)),
         Gigajoules(word(case, 1)),
@@ -93,11 +87,11 @@ pub fn answer_overruns<W: Write>(out: &mut W, case: &[u32]) -> io::Result<()> {
     let day = overruns::overruns_of_day(
         Gigajoules(word(case, 0)),
         Gigajoules(word(case, 1)),
-        yesterday_of(past(case, 10)),
+        hours_of(past(case, 10)),
         sides_of(past(case, 32)),
         side_of(past(case, 2)),
         side_of(past(case, 6)),
-        yesterday_of(past(case, 128)),
+        hours_of(past(case, 128)),
         sides_of(past(case, 150)),
     );
     out.write_all(b"overruns_of_day")?;

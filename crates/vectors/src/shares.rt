@@ -1,17 +1,16 @@
 // One sharing round, and a day's shares.
 use crate::lines::{put_figures, put_gigajoules, put_refusal};
 use crate::words::{MOST_ROWS, list, past, past_list, word};
-use columns::lesser;
 use dayshares::Shares;
 use std::io::{self, Write};
-use units::Gigajoules;
+use units::{Gigajoules, Refusal};
 
 // What a lent list holds before the call: no answer has it.
 const LENT: u32 = 4_000_000_000;
 
 pub fn answer_round<W: Write>(out: &mut W, case: &[u32]) -> io::Result<()> {
     let mut shares = [LENT; MOST_ROWS];
-    let room = lesser(word(case, 1) as usize, MOST_ROWS);
+    let room = (word(case, 1) as usize).min(MOST_ROWS);
     let weights = past(case, 2);
     let needs = past_list(weights);
     let round = rounds::share_round(
@@ -27,16 +26,16 @@ pub fn answer_round<W: Write>(out: &mut W, case: &[u32]) -> io::Result<()> {
             put_figures(out, &[0, 0, given.level, given.total.0 as u64])?;
         }
     }
-    put_gigajoules(out, &shares, room)
+    put_gigajoules(out, &shares[..room])
 }
 
 pub fn answer_day<W: Write>(out: &mut W, case: &[u32]) -> io::Result<()> {
     let mut firm = [LENT; MOST_ROWS];
     let mut auction = [LENT; MOST_ROWS];
     let mut lower_tier = [LENT; MOST_ROWS];
-    let firm_room = lesser(word(case, 2) as usize, MOST_ROWS);
-    let auction_room = lesser(word(case, 3) as usize, MOST_ROWS);
-    let lower_tier_room = lesser(word(case, 4) as usize, MOST_ROWS);
+    let firm_room = (word(case, 2) as usize).min(MOST_ROWS);
+    let auction_room = (word(case, 3) as usize).min(MOST_ROWS);
+    let lower_tier_room = (word(case, 4) as usize).min(MOST_ROWS);
     let day = share_day(
         case,
         &mut firm[0..firm_room],
@@ -48,9 +47,9 @@ pub fn answer_day<W: Write>(out: &mut W, case: &[u32]) -> io::Result<()> {
         Err(refusal) => put_refusal(out, refusal)?,
         Ok(shares) => put_day(out, shares)?,
     }
-    put_gigajoules(out, &firm, firm_room)?;
-    put_gigajoules(out, &auction, auction_room)?;
-    put_gigajoules(out, &lower_tier, lower_tier_room)
+    put_gigajoules(out, &firm[..firm_room])?;
+    put_gigajoules(out, &auction[..auction_room])?;
+    put_gigajoules(out, &lower_tier[..lower_tier_room])
 }
 
 fn share_day(case: &[u32], firm: &mut [u32], auction: &mut [u32], lower_tier: &mut [u32]) -> Result<Shares, Refusal> {

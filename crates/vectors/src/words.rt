@@ -8,11 +8,7 @@ pub const MOST_ROWS: usize = 65;
 
 // The words that a case's bytes spell.
 pub fn words_of(body: &[u8; 4 * MOST_WORDS]) -> [u32; MOST_WORDS] {
-    let mut words = [0u32; MOST_WORDS];
-    for place in 0..MOST_WORDS {
-        words[place] = bigendian::number_at(body, 4 * place, 4);
-    }
-    words
+    std::array::from_fn(|place| bigendian::number_at(body, 4 * place, 4))
 }
 
 pub fn word(case: &[u32], place: usize) -> u32 {
@@ -63,9 +59,5 @@ pub fn signed(case: &[u32], place: usize) -> i64 {
 
 // The numbers of 64 bits of a list of pairs.
 pub fn megajoules_of(pairs: &[u32]) -> [u64; MOST_ROWS] {
-    let mut figures = [0u64; MOST_ROWS];
-    for row in 0..MOST_ROWS {
-        figures[row] = wide(pairs, 2 * row);
-    }
-    figures
+    std::array::from_fn(|row| wide(pairs, 2 * row))
 }
