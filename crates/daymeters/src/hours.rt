@@ -108,7 +108,12 @@ fn fill_delivered(counts: Counts, numbers: &[usize], row: u32, out: &mut [u64])
 
 // Yesterday's 11 and today's 24 delivered hours go to the front of `out`; a refusal leaves it as it was.
 #[tactic(auto, unfolding(crate::specs::Hours::delivered_check, units::specs::Refusals::first_refusal))]
-pub fn meter_delivered(counts: Counts, numbers: &[usize], row: u32, out: &mut [u64]) -> Result<(), Refusal>
+pub fn meter_delivered(
+    counts: Counts,
+    numbers: &[usize],
+    row: u32,
+    out: &mut [u64],
+) -> Result<(), Refusal>
     ensures { Delivered counts numbers.now row out.old result out.new }
 {
     check_meter(counts, numbers, row)?;

@@ -4,7 +4,9 @@
 ghost use Rattle.std.specs.Prelude.{◌≡◌};
 ghost use Rattle.daytable.specs.Acceptance.{bounds_check, idle, first_idle, table_check};
 
-use units::{Gigajoules, MOST_GIGAJOULES, MOST_ROWS, Refusal, clear, gigajoules_at, gigajoules_within, keep};
+use units::{
+    Gigajoules, MOST_GIGAJOULES, MOST_ROWS, Refusal, clear, gigajoules_at, gigajoules_within, keep,
+};
 
 // The first of 01's tests that a day's table fails, with room for so many shares of each class.
 #[tactic(auto, unfolding(crate::specs::Acceptance::table_check, crate::specs::Acceptance::lengths_check, units::specs::Refusals::first_refusal))]

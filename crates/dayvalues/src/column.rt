@@ -54,7 +54,12 @@ fn examine_column(counts: Counts, numbers: &[usize], place: u32, room: usize) ->
 }
 
 // The first test that a column fails, with room for so many rows.
-pub fn check_column(counts: Counts, numbers: &[usize], which: ShipperColumn, room: usize) -> Result<(), Refusal>
+pub fn check_column(
+    counts: Counts,
+    numbers: &[usize],
+    which: ShipperColumn,
+    room: usize,
+) -> Result<(), Refusal>
     ensures { result ≡ column_check counts numbers.now (place_of which) room }
 {
     examine_column(counts, numbers, place_of(which), room)

@@ -70,7 +70,10 @@ fn examine_excused_row(metered: [Megajoules; 24], excused: [Megajoules; 24]) -> 
 
 // Whether both sides' are, delivered first.
 #[tactic(auto, unfolding(crate::specs::Excused::excused_hours_check, units::specs::Refusals::first_refusal))]
-pub fn examine_excused_hours(hours: [[Megajoules; 24]; 2], excused: [[Megajoules; 24]; 2]) -> Result<(), Refusal>
+pub fn examine_excused_hours(
+    hours: [[Megajoules; 24]; 2],
+    excused: [[Megajoules; 24]; 2],
+) -> Result<(), Refusal>
     ensures { result ≡ excused_hours_check hours excused }
 {
     examine_excused_row(hours[0], excused[0])?;

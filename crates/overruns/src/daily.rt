@@ -50,7 +50,11 @@ fn examine(hours: [[Megajoules; 24]; 2], receipt: Side, delivery: Side) -> Resul
 }
 
 // The daily receipt and delivery overruns from both sides' hours, delivered first, and their single figures.
-pub fn daily_overruns(hours: [[Megajoules; 24]; 2], receipt: Side, delivery: Side) -> Result<Daily, Refusal>
+pub fn daily_overruns(
+    hours: [[Megajoules; 24]; 2],
+    receipt: Side,
+    delivery: Side,
+) -> Result<Daily, Refusal>
     ensures { result ≡ daily_answer hours receipt delivery }
 {
     examine(hours, receipt, delivery)?;

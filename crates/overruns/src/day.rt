@@ -154,13 +154,5 @@ pub fn overruns_of_day(
         excused_hours,
     )?;
     let compared = compared_days(&both, &excused_both);
-    Ok(four_overruns(
-        p,
-        m,
-        &compared,
-        hours,
-        excused_hours,
-        receipt,
-        delivery,
-    ))
+    Ok(four_overruns(p, m, &compared, hours, excused_hours, receipt, delivery))
 }

@@ -2,11 +2,18 @@ ghost use Rattle.std.specs.Prelude.{◌≡◌};
 ghost use Rattle.pointshares.specs.Answer.{hour_check};
 
 use crate::stranded::is_stranded;
-use units::{MOST_GIGAJOULES, MOST_HOUR, MOST_ROWS, Refusal, gigajoules_within, keep, megajoules_within};
+use units::{
+    MOST_GIGAJOULES, MOST_HOUR, MOST_ROWS, Refusal, gigajoules_within, keep, megajoules_within,
+};
 
 // The first of an hour's tests that the input fails, with room for so many shares.
 #[tactic(auto, unfolding(crate::specs::Answer::hour_check, units::specs::Refusals::first_refusal))]
-pub fn examine(capacity: u64, entitlements: &[u64], mdqs: &[u32], room: usize) -> Result<(), Refusal>
+pub fn examine(
+    capacity: u64,
+    entitlements: &[u64],
+    mdqs: &[u32],
+    room: usize,
+) -> Result<(), Refusal>
     ensures { result ≡ hour_check capacity entitlements.now mdqs.now room }
 {
     keep(entitlements.len() == mdqs.len(), 9)?;

@@ -36,7 +36,11 @@ pub fn read_full<R: Read>(input: &mut R, buf: &mut [u8]) -> io::Result<usize>
 }
 
 // Prints a listing's text out of the block that it was laid into, or the line of its refusal.
-pub fn print_listing<W: Write>(out: &mut W, listing: Result<usize, Refusal>, block: &[u8]) -> io::Result<()>
+pub fn print_listing<W: Write>(
+    out: &mut W,
+    listing: Result<usize, Refusal>,
+    block: &[u8],
+) -> io::Result<()>
     ensures text { (size : ℕ) → listing ≡ Ok size → size ≤ length block.now
         → OnOk result (Appends (W.contents out.old) (W.contents out.new) (take size block.now)) }
     ensures refusal { (refusal : Refusal) → listing ≡ Err refusal

@@ -16,7 +16,13 @@ fn is_beyond(foundation: usize, rows: usize) -> bool
 
 // The first of the tests that the input fails, with room for so many shares.
 #[tactic(auto, unfolding(crate::specs::General::general_check, units::specs::Refusals::first_refusal))]
-pub fn examine(gas: u64, supplied: u64, foundation: usize, schedules: &[u32], room: usize) -> Result<(), Refusal>
+pub fn examine(
+    gas: u64,
+    supplied: u64,
+    foundation: usize,
+    schedules: &[u32],
+    room: usize,
+) -> Result<(), Refusal>
     ensures { result ≡ general_check gas supplied foundation schedules.now room }
 {
     keep(gas <= MOST_SYSTEM_USE.0, 3)?;

@@ -40,7 +40,11 @@ fn examine(start: Imbalance, end: Imbalance, mdq: Gigajoules) -> Result<(), Refu
 }
 
 // Cl. 4.3: the fuel of the greater positive imbalance of a day's start and end.
-pub fn imbalance_fuel(start: Imbalance, end: Imbalance, mdq: Gigajoules) -> Result<Megajoules, Refusal>
+pub fn imbalance_fuel(
+    start: Imbalance,
+    end: Imbalance,
+    mdq: Gigajoules,
+) -> Result<Megajoules, Refusal>
     ensures { result ≡ imbalance_fuel start end mdq }
 {
     examine(start, end, mdq)?;

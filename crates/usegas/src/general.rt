@@ -30,7 +30,11 @@ pub fn share_general(
 }
 
 // Cl. 4.5: the same rule with nobody excepted.
-pub fn share_heater(gas: Megajoules, schedules: &[u32], shares: &mut [u64]) -> Result<Megajoules, Refusal>
+pub fn share_heater(
+    gas: Megajoules,
+    schedules: &[u32],
+    shares: &mut [u64],
+) -> Result<Megajoules, Refusal>
     ensures { HeaterAnswered gas.0 schedules.now shares.old result shares.new }
 {
     share_general(gas, Megajoules(0), NO_FOUNDATION, schedules, shares)

@@ -3,7 +3,7 @@ use crate::lines::{put_figures, put_refusal};
 use crate::words::{past, wide, word};
 use std::io::{self, Write};
 use tariff::Change;
-use units::{Gigajoules, Megajoules, Rate, Cents, Refusal};
+use units::{Cents, Gigajoules, Megajoules, Rate, Refusal};
 
 // A schedule before and after.
 fn change_of(case: &[u32]) -> Change {

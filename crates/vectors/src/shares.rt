@@ -52,7 +52,12 @@ pub fn answer_day<W: Write>(out: &mut W, case: &[u32]) -> io::Result<()> {
     put_gigajoules(out, &lower_tier[..lower_tier_room])
 }
 
-fn share_day(case: &[u32], firm: &mut [u32], auction: &mut [u32], lower_tier: &mut [u32]) -> Result<Shares, Refusal> {
+fn share_day(
+    case: &[u32],
+    firm: &mut [u32],
+    auction: &mut [u32],
+    lower_tier: &mut [u32],
+) -> Result<Shares, Refusal> {
     let firm_mdq = past(case, 5);
     let auction_mdq = past_list(firm_mdq);
     let firm_schedule = past_list(auction_mdq);
