@@ -8,7 +8,7 @@ use Rattle.units.specs.declared.Gigajoules.{Gigajoules}
 use Rattle.units.specs.declared.Megajoules.{Megajoules}
 use Rattle.units.specs.declared.refusal.Refusal.{Refusal}
 use Rattle.units.specs.Bound.{most_rate}
-use Rattle.units.specs.Refusals.{◌then◌, keep}
+use Rattle.units.specs.Refusals.{keep, first_refusal}
 use Rattle.metered.specs.declared.Side.{Side}
 use Rattle.overruns.specs.Excused.{excused_day_answer}
 use Rattle.cormcushion.specs.Packed.{refused}
@@ -16,14 +16,14 @@ use Rattle.cormcushion.specs.Meter.{of_overruns, with_overruns, rate_check, Pric
 use Rattle.overruns.specs.declared.day.Overruns.{Overruns}
 
 module _ {rate : ℕ} {over : Result Overruns Refusal} {lent : List ℕ} {packed : ℕ} where
-  pub refused-rate : {x : Refusal} → (Ok tt then keep (leb rate most_rate) 3) ≡ Err x → packed ≡ refused x
+  pub refused-rate : {x : Refusal} → keep (leb rate most_rate) 3 ≡ Err x → packed ≡ refused x
       → PricePacked rate over lent packed lent
-  unfolding rate_check
+  unfolding rate_check first_refusal
   refused-rate is e = record { answers = rw is e; leaves = rw is }
 
-  pub charged : {after : List ℕ} → (Ok tt then keep (leb rate most_rate) 3) ≡ Ok tt → packed ≡ of_overruns rate over
+  pub charged : {after : List ℕ} → keep (leb rate most_rate) 3 ≡ Ok tt → packed ≡ of_overruns rate over
       → after ≡ with_overruns rate over lent → PricePacked rate over lent packed after
-  unfolding rate_check
+  unfolding rate_check first_refusal
   charged is e l = record { answers = rw is e; leaves = rw is l }
 
 -- equal figures give one answer: hours of yesterday, delivered, received; both sides; the hours excused in the same order
