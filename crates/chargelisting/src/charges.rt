@@ -10,7 +10,7 @@ use daymeters::{
     meter_yesterday,
 };
 use metered::Side;
-use overruns::{Overruns, overruns_of_day};
+use overruns::{ExcusedHours, Overruns, ShipperDay, overruns_of_day};
 use tariff::overrun_charge;
 use units::{Cents, Gigajoules, Megajoules, Rate};
 
@@ -48,20 +48,20 @@ fn overruns_of(counts: Counts, numbers: &[usize], row: u32) -> Overruns
     ensures { result ≡ overruns_of counts numbers.now row }
 {
     let figures = figures_of(counts, numbers, row);
-    let yesterday = meter_yesterday(counts, numbers, row);
-    let hours = meter_hours(counts, numbers, row);
-    let excused = excused_row(counts, numbers, figures.shipper);
-    overruns_of_day(
-        figures.p,
-        figures.m,
-        yesterday,
-        hours,
-        figures.receipt,
-        figures.delivery,
-        excused_yesterday(counts, numbers, excused),
-        excused_hours(counts, numbers, excused),
-    )
-    .unwrap_or(NO_OVERRUNS)
+    let excused_row = excused_row(counts, numbers, figures.shipper);
+    let day = ShipperDay {
+        p: figures.p,
+        m: figures.m,
+        yesterday: meter_yesterday(counts, numbers, row),
+        hours: meter_hours(counts, numbers, row),
+        receipt: figures.receipt,
+        delivery: figures.delivery,
+    };
+    let excused = ExcusedHours {
+        yesterday: excused_yesterday(counts, numbers, excused_row),
+        hours: excused_hours(counts, numbers, excused_row),
+    };
+    overruns_of_day(&day, &excused).unwrap_or(NO_OVERRUNS)
 }
 
 // What an overrun costs, zero where it is refused.

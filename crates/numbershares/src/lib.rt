@@ -12,6 +12,7 @@ ghost use Rattle.numbershares.specs.Private.{columns_check, early_check};
 
 use dayformat::{Counts, Day, numbers_of};
 use dayshares::{Shares, share_day};
+use daytable::DayTable;
 use dayvalues::{ShipperColumn, check_column, shipper_column};
 use units::{MOST_GIGAJOULES, MOST_ROWS, Refusal, keep};
 
@@ -73,18 +74,16 @@ fn share_columns(
     let firm_schedule = column_of(counts, numbers, ShipperColumn::FirmSchedule);
     let auction_schedule = column_of(counts, numbers, ShipperColumn::AuctionSchedule);
     let lower_tier_schedule = column_of(counts, numbers, ShipperColumn::LowerTierSchedule);
-    share_day(
-        head.free_flow,
-        head.compressor,
-        &firm_mdq[..rows],
-        &auction_mdq[..rows],
-        &firm_schedule[..rows],
-        &auction_schedule[..rows],
-        &lower_tier_schedule[..rows],
-        firm,
-        auction,
-        lower_tier,
-    )
+    let table = DayTable {
+        free_flow: head.free_flow,
+        compressor: head.compressor,
+        firm_mdq: &firm_mdq[..rows],
+        auction_mdq: &auction_mdq[..rows],
+        firm_schedule: &firm_schedule[..rows],
+        auction_schedule: &auction_schedule[..rows],
+        lower_tier_schedule: &lower_tier_schedule[..rows],
+    };
+    share_day(&table, firm, auction, lower_tier)
 }
 
 // Each class's shares go to the front of its list; a refusal leaves all three as they were.
