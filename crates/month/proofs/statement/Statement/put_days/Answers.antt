@@ -5,14 +5,14 @@ use lib.ListN.{length, take, length-take}
 use lib.Seq.{get_or-take}
 use Rattle.lines.proofs.Texts.{texts_none, texts_more, texts_all, laid-long}
 use Rattle.month.specs.Days.{no_day}
-use Rattle.month.proofs.statement.put_days.Goals as goal
+use Rattle.month.proofs.statement.Statement.put_days.Goals as goal
 
 pub loop-day-init : goal.loop-day-init
 loop-day-init c = (omega arith, texts_none _)
 
 pub loop-day-preserved : goal.loop-day-preserved
 loop-day-preserved c =
-    let account = c.args.account in
+    let account = c.args.self.now.account in
     let now = c.loop-day in
     let few : now.day-index < account.count = omega (arith, c.loop-day-test.true, length-take account.count account.days) in (
       omega (arith, now.invariant.0, c.put_day-size.ensures.1),
@@ -24,9 +24,9 @@ shape_of-text c = laid-long c.loop-day.invariant.1
 
 pub returns : goal.returns
 returns c =
-    let account = c.args.account in
+    let account = c.args.self.now.account in
     let now = c.loop-day in
     let long : length (take account.count account.days) ≡ account.count = omega (arith, length-take account.count account.days) in (
       texts_all _ (omega (arith, long, now.auto.day-index-end)) (omega (arith, long, c.loop-day-test.false)) now.invariant.1,
-      omega (arith, long, now.auto.day-index-end, now.invariant.0, c.requires.0),
+      omega (arith, long, now.auto.day-index-end, now.invariant.0, c.args.self.now.few),
     )
