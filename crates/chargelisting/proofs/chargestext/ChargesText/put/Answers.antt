@@ -1,6 +1,6 @@
 -- The head line, and the meters' lines where it ends.
 use Rattle.text.proofs.Laying.{laid_both}
-use Rattle.chargelisting.proofs.chargestext.put_charges.Goals as goal
+use Rattle.chargelisting.proofs.chargestext.ChargesText.put.Goals as goal
 
 pub returns : goal.returns
 returns c =
