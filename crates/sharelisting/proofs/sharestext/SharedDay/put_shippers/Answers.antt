@@ -1,6 +1,8 @@
 use native.Mathlib.Omega.{arith}
+use Prim.Native.Nat.{◌≤◌}
+use Rattle.dayformat.specs.declared.form.Tag.TheVariants.{Shipper}
 use Rattle.lines.proofs.Texts.{texts_none, texts_more, texts_all, laid-long}
-use Rattle.sharelisting.proofs.sharestext.put_shippers.Goals as goal
+use Rattle.sharelisting.proofs.sharestext.SharedDay.put_shippers.Goals as goal
 
 pub loop-row-init : goal.loop-row-init
 loop-row-init c = (omega arith, texts_none _)
@@ -25,4 +27,5 @@ shape_of-text c = laid-long c.loop-row.invariant.1
 pub returns : goal.returns
 returns c =
     let now = c.loop-row in
-    (texts_all _ now.auto.row-end c.loop-row-test.false now.invariant.1, omega (arith, now.auto.row-end, now.invariant.0, c.requires.0))
+    let few : c.args.self.now.day.counts.shippers ≤ 64 = c.args.self.now.sound.few Shipper in
+    (texts_all _ now.auto.row-end c.loop-row-test.false now.invariant.1, omega (arith, now.auto.row-end, now.invariant.0, few))
