@@ -1,6 +1,6 @@
 -- The day's line, and the points' lines where it ends.
 use Rattle.text.proofs.Laying.{laid_both}
-use Rattle.pointlisting.proofs.list.put_points.Goals as goal
+use Rattle.pointlisting.proofs.list.PointsText.put.Goals as goal
 
 pub returns : goal.returns
 returns c =
