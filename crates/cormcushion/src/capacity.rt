@@ -22,6 +22,7 @@ pub fn cormcushion_share_round(
 }
 
 // A day's shares: LEFT, with each class's shares at the front of its lent list, and the levels of the five rounds in `levels`.
+// The table's figures come one by one: the C interface.
 pub fn cormcushion_share_day(
     free_flow: u32,
     compressor: u32,

@@ -13,6 +13,7 @@ use tariff::overrun_charge;
 use units::{Gigajoules, MOST_RATE, Megajoules, Rate, Refusal, keep};
 
 // The charge in cents for the greatest of a day's four overruns, with the four and the greatest in `lent`.
+// The day's figures come one by one, here and below: the C interface.
 pub fn cormcushion_overruns(
     rate: u32,
     p: u32,
