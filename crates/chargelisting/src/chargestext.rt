@@ -4,7 +4,8 @@ ghost use Rattle.text.specs.Text.{Laid};
 ghost use Rattle.chargelisting.specs.ChargesText.{head_line, meter_lines, charges_text};
 
 use crate::charges::charge_figures;
-use dayformat::{Counts, Day};
+use dayformat::Day;
+use dayrows::Tables;
 use lines::{put_labelled, put_line, put_word};
 use units::Rate;
 
@@ -19,14 +20,14 @@ fn put_head(day: u32, rate: Rate, text: &mut [u8], at: usize) -> usize
 }
 
 // A line for each meter.
-fn put_meters(rate: Rate, counts: Counts, numbers: &[usize], text: &mut [u8], at: usize) -> usize
-    requires { (counts.meters ≤ 64) × (at ≤ length text.old + 4096) }
-    ensures { (Laid (meter_lines rate counts numbers.now counts.meters) text.old at result text.new)
+fn put_meters(rate: Rate, tables: Tables, text: &mut [u8], at: usize) -> usize
+    requires { (tables.counts.meters ≤ 64) × (at ≤ length text.old + 4096) }
+    ensures { (Laid (meter_lines rate tables.entry.counts tables.entry.numbers.now tables.entry.counts.meters) text.old at result text.new)
         × (result ≤ 131072) }
 {
     let mut size = 0;
-    for row in 0..counts.meters {
-        let figures = charge_figures(rate, counts, numbers, row);
+    for row in 0..tables.counts.meters {
+        let figures = charge_figures(rate, tables, row);
         size += put_line(&figures, text, at + size);
     }
     size
@@ -38,6 +39,10 @@ pub fn put_charges(day: Day, rate: Rate, numbers: &[usize], text: &mut [u8], at:
     ensures { Laid (charges_text rate day numbers.now) text.old at result text.new }
 {
     let head = day.head;
+    let tables = Tables {
+        counts: day.counts,
+        numbers,
+    };
     let size = put_head(head.day, rate, text, at);
-    size + put_meters(rate, day.counts, numbers, text, at + size)
+    size + put_meters(rate, tables, text, at + size)
 }

@@ -8,6 +8,7 @@ mod field;
 mod keys;
 mod mdqs;
 mod row;
+mod tables;
 
 ghost use Rattle.std.specs.Prelude.{◌≡◌};
 ghost use Rattle.columns.specs.Column.{col};
@@ -21,6 +22,7 @@ use dayformat::{Counts, Tag, count_of, form_of};
 pub use field::breaks;
 pub use mdqs::is_idle;
 pub use row::{Row, row_of};
+pub use tables::Tables;
 
 // Where rows stand: in a day's file or block, or in a list of the entries of one side. No closure: `passes` and `fault` speak of it.
 #[derive(Clone, Copy)]

@@ -12,6 +12,7 @@ ghost use Rattle.dayvalues.specs.Shippers.{shipper_of};
 use crate::sharestext::{put_head, put_shippers};
 use dayfile::read_day;
 use dayformat::{Day, MOST_NUMBERS, numbers_of};
+use dayrows::Tables;
 use numbershares::share_numbers;
 use units::{MOST_ROWS, Refusal};
 
@@ -45,9 +46,12 @@ fn put_shares(
         text.old at result text.new }
 {
     let head = day.head;
-    let counts = day.counts;
+    let tables = Tables {
+        counts: day.counts,
+        numbers,
+    };
     let size = put_head(head.day, totals[0], totals[1], text, at);
-    size + put_shippers(counts, numbers, firm, auction, lower_tier, text, at + size)
+    size + put_shippers(tables, firm, auction, lower_tier, text, at + size)
 }
 
 // The text to the front of the block; 7 exactly when it is longer. Laid from the block's end on, it is only counted.

@@ -5,7 +5,8 @@ ghost use Rattle.text.specs.Text.{Laid};
 ghost use Rattle.dayvalues.specs.Shippers.{shipper_of};
 ghost use Rattle.sharelisting.specs.SharesText.{head_line, shipper_lines};
 
-use dayformat::{Counts, Tag};
+use dayformat::Tag;
+use dayrows::Tables;
 use dayvalues::number_at;
 use lines::{put_labelled, put_line, put_word};
 use units::gigajoules_at;
@@ -23,24 +24,23 @@ pub fn put_head(day: u32, firm: u32, left: u32, text: &mut [u8], at: usize) -> u
 
 // A line for each shipper.
 pub fn put_shippers(
-    counts: Counts,
-    numbers: &[usize],
+    tables: Tables,
     firm: &[u32],
     auction: &[u32],
     lower_tier: &[u32],
     text: &mut [u8],
     at: usize,
 ) -> usize
-    requires { (counts.shippers ≤ 64) × (at ≤ length text.old + 4096) }
+    requires { (tables.counts.shippers ≤ 64) × (at ≤ length text.old + 4096) }
     ensures { (Laid
-        (shipper_lines counts.shippers (shipper_of counts (col numbers.now))
+        (shipper_lines tables.entry.counts.shippers (shipper_of tables.entry.counts (col tables.entry.numbers.now))
         (col firm.now) (col auction.now) (col lower_tier.now))
         text.old at result text.new) × (result ≤ 131072) }
 {
     let mut size = 0;
-    for row in 0..counts.shippers {
+    for row in 0..tables.counts.shippers {
         let figures = [
-            number_at(counts, numbers, Tag::Shipper, row, 0) as u64,
+            number_at(tables, Tag::Shipper, row, 0) as u64,
             gigajoules_at(firm, row as usize) as u64,
             gigajoules_at(auction, row as usize) as u64,
             gigajoules_at(lower_tier, row as usize) as u64,

@@ -6,4 +6,4 @@ use Rattle.chargelisting.proofs.chargestext.put_meters.Given as goal
 
 abbrev pub invariant-loop-row : goal.invariant-loop-row
 invariant-loop-row l =
-    (l.size ≤ 2048 * l.row) × Laid (meter_lines l.rate l.counts l.numbers l.row) l.initial.text l.at l.size l.text
+    (l.size ≤ 2048 * l.row) × Laid (meter_lines l.rate l.tables.counts l.tables.numbers.now l.row) l.initial.text l.at l.size l.text

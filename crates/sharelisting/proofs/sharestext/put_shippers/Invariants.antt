@@ -9,5 +9,5 @@ use Rattle.sharelisting.proofs.sharestext.put_shippers.Given as goal
 abbrev pub invariant-loop-row : goal.invariant-loop-row
 invariant-loop-row l =
     (l.size ≤ 2048 * l.row)
-    × Laid (shipper_lines l.row (shipper_of l.counts (col l.numbers)) (col l.firm) (col l.auction) (col l.lower_tier))
+    × Laid (shipper_lines l.row (shipper_of l.tables.counts (col l.tables.numbers.now)) (col l.firm) (col l.auction) (col l.lower_tier))
     l.initial.text l.at l.size l.text
