@@ -39,10 +39,8 @@ pub fn put_charges(day: Day, rate: Rate, numbers: &[usize], text: &mut [u8], at:
     ensures { Laid (charges_text rate day numbers.now) text.old at result text.new }
 {
     let head = day.head;
-    let tables = Tables {
-        counts: day.counts,
-        numbers,
-    };
+    let counts = day.counts;
+    let tables = Tables { counts, numbers };
     let size = put_head(head.day, rate, text, at);
     size + put_meters(rate, tables, text, at + size)
 }

@@ -47,9 +47,10 @@ fn first_beyond(tables: Tables, place: u32) -> u32
 fn examine_column(tables: Tables, place: u32, room: usize) -> Result<(), Refusal>
     ensures { result ≡ column_check tables.entry.counts tables.entry.numbers.now place room }
 {
-    let rows = tables.counts.shippers as usize;
-    keep(tables.numbers.len() == numbers_of(tables.counts), 9)?;
-    tables.counts.check()?;
+    let Tables { counts, numbers } = tables;
+    let rows = counts.shippers as usize;
+    keep(numbers.len() == numbers_of(counts), 9)?;
+    counts.check()?;
     clear(rows, first_beyond(tables, place) as usize, 3)?;
     keep(rows <= room, 7)
 }

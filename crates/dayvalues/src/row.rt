@@ -11,10 +11,8 @@ use units::{Refusal, clear, keep};
 pub fn number_at(tables: Tables, tag: Tag, row: u32, place: u32) -> usize
     ensures { result ≡ number_at tables.entry.counts (col tables.entry.numbers.now) tag row place }
 {
-    number_of(
-        tables.numbers,
-        row_place(tables.counts, tag, row) + place as usize,
-    )
+    let at = row_place(tables.counts, tag, row) + place as usize;
+    number_of(tables.numbers, at)
 }
 
 // Whether it is beyond its bounds.
@@ -29,7 +27,7 @@ pub fn is_beyond(tables: Tables, tag: Tag, row: u32, place: u32) -> bool
 fn beyond_row(tables: Tables, tag: Tag, row: u32) -> u32
     ensures { result ≡ beyond_row tables.entry.counts (col tables.entry.numbers.now) tag row }
 {
-    if is_bounded(row_of(tables.counts, tables.numbers, tag, row)) {
+    if is_bounded(row_of(tables, tag, row)) {
         return count_of(tables.counts, tag);
     }
     row
@@ -50,10 +48,11 @@ pub fn row_beginning(tables: Tables, tag: Tag, number: u32) -> u32
 pub fn check_row(tables: Tables, tag: Tag, row: u32) -> Result<(), Refusal>
     ensures { result ≡ row_check tables.entry.counts tables.entry.numbers.now tag row }
 {
-    let rows = count_of(tables.counts, tag);
+    let Tables { counts, numbers } = tables;
+    let rows = count_of(counts, tag);
     let beyond = beyond_row(tables, tag, row);
-    keep(tables.numbers.len() == numbers_of(tables.counts), 9)?;
-    tables.counts.check()?;
+    keep(numbers.len() == numbers_of(counts), 9)?;
+    counts.check()?;
     keep(row < rows, 3)?;
     clear(rows as usize, beyond as usize, 3)
 }

@@ -46,10 +46,8 @@ fn put_shares(
         text.old at result text.new }
 {
     let head = day.head;
-    let tables = Tables {
-        counts: day.counts,
-        numbers,
-    };
+    let counts = day.counts;
+    let tables = Tables { counts, numbers };
     let size = put_head(head.day, totals[0], totals[1], text, at);
     size + put_shippers(tables, firm, auction, lower_tier, text, at + size)
 }

@@ -78,10 +78,8 @@ fn answer_numbers<W: Write>(
     numbers: &[usize],
     given: &[u8],
 ) -> Result<()> {
-    let tables = Tables {
-        counts: day.counts,
-        numbers,
-    };
+    let counts = day.counts;
+    let tables = Tables { counts, numbers };
     match routine {
         1 => rows::answer_number(out, tables, given),
         2 => rows::answer_row(out, tables, given),
