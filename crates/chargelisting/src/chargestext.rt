@@ -6,6 +6,7 @@ ghost use Rattle.chargelisting.specs.ChargesText.{head_line, meter_lines, charge
 
 use crate::charges::charge_figures;
 use dayformat::Day;
+use dayrows::Tables;
 use lines::{Text, put_labelled, put_line, put_word};
 use units::Rate;
 
@@ -46,10 +47,13 @@ impl<'a> Charges<'a> {
         ensures { (Laid (meter_lines self.now.rate self.now.day.counts self.now.numbers.now self.now.day.counts.meters)
             text.old at result text.new) × (result ≤ 131072) }
     {
-        let counts = self.day.counts;
+        let tables = Tables {
+            counts: self.day.counts,
+            numbers: self.numbers,
+        };
         let mut size = 0;
-        for row in 0..counts.meters {
-            let figures = charge_figures(self.rate, counts, self.numbers, row);
+        for row in 0..tables.counts.meters {
+            let figures = charge_figures(self.rate, tables, row);
             size += put_line(&figures, text, at + size);
         }
         size

@@ -7,7 +7,7 @@ ghost use Rattle.dayfields.specs.Field.{Taken};
 
 use crate::row::read_row;
 use dayformat::{Counts, HEADER, Tag, row_place};
-use dayrows::{Source, breaks, row_fault};
+use dayrows::{Source, Tables, breaks, row_fault};
 
 // The number that refuses the field at a byte, 0 for none. The row of a field that is whole goes into the numbers.
 pub fn take_field(
@@ -26,5 +26,5 @@ pub fn take_field(
         return broken;
     }
     read_row(file, tag, at + HEADER, numbers, row_place(counts, tag, row));
-    row_fault(source, counts, numbers, tag, row)
+    row_fault(source, Tables { counts, numbers }, tag, row)
 }

@@ -8,6 +8,7 @@ ghost use Rattle.sharelisting.specs.SharesText.{head_line, shipper_lines, shares
 ghost use Rattle.sharelisting.specs.Private.{Shared};
 
 use dayformat::{Day, Tag};
+use dayrows::Tables;
 use dayshares::Shares;
 use dayvalues::number_at;
 use lines::{Text, put_labelled, put_line, put_word};
@@ -58,11 +59,14 @@ impl<'a> SharedDay<'a> {
             (col self.now.firm.now) (col self.now.auction.now) (col self.now.lower_tier.now))
             text.old at result text.new) × (result ≤ 131072) }
     {
-        let counts = self.day.counts;
+        let tables = Tables {
+            counts: self.day.counts,
+            numbers: self.numbers,
+        };
         let mut size = 0;
-        for row in 0..counts.shippers {
+        for row in 0..tables.counts.shippers {
             let figures = [
-                number_at(counts, self.numbers, Tag::Shipper, row, 0) as u64,
+                number_at(tables, Tag::Shipper, row, 0) as u64,
                 gigajoules_at(self.firm, row as usize) as u64,
                 gigajoules_at(self.auction, row as usize) as u64,
                 gigajoules_at(self.lower_tier, row as usize) as u64,
