@@ -34,9 +34,10 @@ impl<'a> Text for Charges<'a> {
     ghost text = { λ self. charges_text self.rate self.day self.numbers.now };
 
     fn put(&self, block: &mut [u8], at: usize) -> usize {
+        let from = at.min(block.len());
         let head = self.day.head;
-        let size = put_head(head.day, self.rate, block, at);
-        size + self.put_meters(block, at + size)
+        let size = put_head(head.day, self.rate, block, from);
+        size + self.put_meters(block, from + size)
     }
 }
 

@@ -62,14 +62,13 @@ pub fn put_refusal(refusal: Refusal, text: &mut [u8], at: usize) -> usize
     title + put_line(&row, text, from + title)
 }
 
-// A text that is laid from any place of a block on.
+// A text that can be laid from any place on: what lies past the block is dropped.
 pub trait Text {
     // Its bytes.
     ghost text: { Self → List ℕ };
 
     // Lays it, and returns how many bytes it has.
     fn put(&self, block: &mut [u8], at: usize) -> usize
-        requires { at ≤ length block.old }
         ensures { Laid (text self.now) block.old at result block.new };
 }
 

@@ -37,8 +37,9 @@ impl Text for Statement {
     ghost text = { λ self. statement self.account };
 
     fn put(&self, block: &mut [u8], at: usize) -> usize {
-        let size = self.put_days(block, at);
-        size + put_total(self.sums, block, at + size)
+        let from = at.min(block.len());
+        let size = self.put_days(block, from);
+        size + put_total(self.sums, block, from + size)
     }
 }
 

@@ -55,9 +55,10 @@ impl<'a> Text for Points<'a> {
     ghost text = { λ self. points_text self.day (col self.numbers.now) };
 
     fn put(&self, block: &mut [u8], at: usize) -> usize {
+        let from = at.min(block.len());
         let head = self.day.head;
-        let size = put_day(head.day, block, at);
-        size + put_each(self, block, at + size)
+        let size = put_day(head.day, block, from);
+        size + put_each(self, block, from + size)
     }
 }
 

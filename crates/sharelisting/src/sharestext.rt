@@ -43,10 +43,11 @@ impl<'a> Text for SharedDay<'a> {
     ghost text = { λ self. shares_text self.day (col self.numbers.now) };
 
     fn put(&self, block: &mut [u8], at: usize) -> usize {
+        let from = at.min(block.len());
         let head = self.day.head;
         let shares = self.shares;
-        let size = put_head(head.day, shares.firm.0, shares.left.0, block, at);
-        size + self.put_shippers(block, at + size)
+        let size = put_head(head.day, shares.firm.0, shares.left.0, block, from);
+        size + self.put_shippers(block, from + size)
     }
 }
 
