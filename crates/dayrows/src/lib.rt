@@ -4,6 +4,7 @@
 
 mod bounds;
 mod caps;
+mod fault;
 mod field;
 mod keys;
 mod mdqs;
@@ -19,6 +20,7 @@ use crate::keys::{is_named, rises};
 use crate::mdqs::is_starved;
 pub use bounds::{is_bounded, is_within, number_of};
 use dayformat::{Tag, count_of, form_of};
+pub use fault::Fault;
 pub use field::breaks;
 pub use mdqs::is_idle;
 pub use row::{Row, row_of};
@@ -39,20 +41,21 @@ pub enum Test {
     Mdq,
 }
 
-// The number of the first test that a row fails, 0 for none.
-pub fn row_fault(source: Source, tables: Tables, tag: Tag, row: u32) -> u8
+// The first of 3, 5 and 4 that a row is refused by.
+#[tactic(auto, unfolding(crate::specs::Test::fault), using(crate::proofs::Faults::mdq_any))]
+pub fn row_fault(source: Source, tables: Tables, tag: Tag, row: u32) -> Result<(), Fault>
     ensures { result ≡ fault source tables.entry.counts (col tables.entry.numbers.now) tag row }
 {
     if !keeps_bounds(source, tables, tag, row) {
-        return 3;
+        return Err(Fault::Beyond);
     }
     if !keeps_key(source, tables, tag, row) {
-        return 5;
+        return Err(Fault::Key);
     }
     if !keeps_mdq(tables, tag, row) {
-        return 4;
+        return Err(Fault::Mdq);
     }
-    0
+    Ok(())
 }
 
 // 3: a row too many, a number beyond its bound or its cap, an entry of the other side.
