@@ -9,5 +9,7 @@ use Rattle.sharelisting.proofs.sharestext.SharedDay.put_shippers.Given as goal
 abbrev pub invariant-loop-row : goal.invariant-loop-row
 invariant-loop-row l =
     (l.size ≤ 2048 * l.row)
-    × Laid (shipper_lines l.row (shipper_of l.self.day.counts (col l.self.numbers.now)) (col l.self.firm.now) (col l.self.auction.now) (col l.self.lower_tier.now))
+    × Laid
+    (shipper_lines l.row (shipper_of l.self.day.counts (col l.self.numbers.now))
+    (col l.self.firm.now) (col l.self.auction.now) (col l.self.lower_tier.now))
     l.initial.text l.at l.size l.text

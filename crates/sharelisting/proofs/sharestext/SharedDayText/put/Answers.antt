@@ -7,5 +7,7 @@ use Rattle.sharelisting.proofs.sharestext.SharedDayText.put.Goals as goal
 pub returns : goal.returns
 returns c =
     let own = c.args.self.now in
-    let laid = rw (text_is own.day own.numbers.now own.shares own.shared) at (laid_both c.put_head-size.ensures.0 c.put_shippers.ensures.0) in
+    let laid =
+    rw (text_is own.day own.numbers.now own.shares own.shared) at (laid_both c.put_head-size.ensures.0 c.put_shippers.ensures.0)
+    in
     laid_from _ c.min-from.ensures laid
