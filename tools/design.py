@@ -55,7 +55,7 @@ def twins():
 
 def loops():
     for place, name, _, body in functions():
-        for m in re.finditer(r"^(\s*)while (.*) \{\n(.*?)^\1\}", body, re.M | re.S):
+        for m in re.finditer(r"^( *)while ([^\n]*) \{\n(.*?)^\1\}", body, re.M | re.S):
             if re.search(r"^\s*(\w+) [+-]= 1;", m[3], re.M):
                 yield f"{place} {name}: while {m[2]}"
 

@@ -60,7 +60,7 @@ pub fn cormcushion_overruns_excused(
     price_rated(rate, overruns_of_day(&day, &excused), lent)
 }
 
-// A side's single figures: 0 receipt, 1 delivery.
+// A side's single figures: 0 receipt, 1 delivery. A number, for it is a place in both lists.
 fn side_of(schedules: &[u32; 4], metered: &[u64; 2], side: usize) -> Side
     requires { side ≤ 1 }
     ensures { result ≡ side_of schedules.now metered.now side }

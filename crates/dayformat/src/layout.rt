@@ -13,7 +13,7 @@ use crate::form::{
 use crate::order::{TABLES, table_place, tag_at};
 use units::{Refusal, keep};
 
-// How many numbers a day has at most.
+// How many numbers a day has at most. Without a heap a day's block is an array of so many, or lent.
 pub const MOST_NUMBERS: usize = MOST_SHIPPERS as usize * SHIPPER_COLUMNS
     + MOST_POINTS as usize * POINT_COLUMNS
     + MOST_ENTRIES as usize * ENTRY_COLUMNS

@@ -34,7 +34,7 @@ fn gigajoules_at(tables: Tables, row: u32, place: u32) -> Gigajoules
     Gigajoules(number_at(tables, Tag::Meter, row, place) as u32)
 }
 
-// A side's figures: 0 receipt, 1 delivery.
+// A side's figures: 0 receipt, 1 delivery. A number, for places are counted from it.
 fn side_of(tables: Tables, row: u32, side: u32) -> Side
     requires { Bounded tables.counts (col tables.numbers.now) row × (side ≤ 1) }
     ensures { result ≡ side_of tables.entry.counts (col tables.entry.numbers.now) row side }

@@ -14,7 +14,7 @@ use units::{Megajoules, Refusal, keep};
 // Where a meter's hours begin.
 pub const METERED: u32 = 3;
 
-// The megajoules at a place.
+// The megajoules at a place. A row stays a number beside its tables: it is untested, and a `Row` is one that begins near.
 pub fn megajoules_at(tables: Tables, tag: Tag, row: u32, place: u32) -> Megajoules
     ensures { result.0 ≡ number_at tables.entry.counts (col tables.entry.numbers.now) tag row place }
 {

@@ -7,7 +7,7 @@ use dayformat::Tag;
 use dayrows::Tables;
 use units::{Megajoules, Refusal};
 
-// A point of a side (0 receipt, 1 delivery), and its hourly capacity.
+// A point of a side (0 receipt, 1 delivery, as `point_answer` has it), and its hourly capacity.
 #[derive(Clone, Copy)]
 pub struct Point {
     pub side: u8,

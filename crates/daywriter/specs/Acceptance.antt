@@ -10,7 +10,6 @@ use Rattle.dayformat.specs.Format.{many_tables, tag_at}
 use Rattle.dayformat.specs.Layout.{count, numbers_in, file_size}
 use Rattle.dayformat.specs.Acceptance.{counts_check}
 use Rattle.dayrows.specs.declared.Test.{Test}
-use Rattle.dayrows.specs.declared.Test.TheVariants as Test
 use Rattle.dayrows.specs.Test.{first_failing}
 
 -- 3: the head, then the counts

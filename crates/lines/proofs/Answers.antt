@@ -9,7 +9,7 @@ use borrow.Author.Tests.{le-leb, lt-leb}
 use lib.ListN.{length}
 use lib.Seq.{sets}
 use Rattle.units.specs.declared.refusal.Refusal.{Refusal}
-use Rattle.units.specs.Refusals.{plain, ◌then◌, keep, Check, first_refusal}
+use Rattle.units.specs.Refusals.{plain, keep, Check, first_refusal}
 use Rattle.text.specs.Text.{Laid}
 use Rattle.lines.specs.Answer.{listing_check, ListingAnswered}
 use Rattle.lines.proofs.Lining.{laid-past}

@@ -20,28 +20,28 @@ pub struct AccountDay {
     pub figures: Figures,
 }
 
-// The days are the first so many; what stands past them is no part of the account.
+// The days are the first so many; what stands past them is no part of the account. No heap, and any account may be handed in.
 #[derive(Clone, Copy)]
 pub struct Account {
     pub days: [AccountDay; MOST_DAYS],
     pub count: usize,
 }
 
-// The account after a day was handed in, and what was found of the day.
+// The account after a day was handed in, and what was found of the day. C-11 hands it back by value, on a refusal too.
 #[derive(Clone, Copy)]
 pub struct Taken {
     pub account: Account,
     pub found: Result<(), Refusal>,
 }
 
-// The account, and its total.
+// The account, and its total: by value as above.
 #[derive(Clone, Copy)]
 pub struct Totalled {
     pub account: Account,
     pub total: Result<Figures, Refusal>,
 }
 
-// The account after it was closed, and how many bytes its statement has.
+// The account after it was closed, and how many bytes its statement has: by value as above.
 #[derive(Clone, Copy)]
 pub struct Closed {
     pub account: Account,

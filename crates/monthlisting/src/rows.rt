@@ -16,8 +16,7 @@ pub fn hand_in(numbers: &[u64]) -> Taken
 {
     let rows = numbers.len() / ROW;
     let mut account = Account::empty();
-    let mut row = 0;
-    while row < rows {
+    for row in 0..rows {
         let taken = take_row(account, numbers, row);
         if let Err(refusal) = taken.found {
             return Taken {
@@ -26,7 +25,6 @@ pub fn hand_in(numbers: &[u64]) -> Taken
             };
         }
         account = taken.account;
-        row += 1;
     }
     Taken {
         account,

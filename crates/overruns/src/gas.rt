@@ -14,7 +14,7 @@ pub fn thousandths(count: u64, mdq: Gigajoules) -> Megajoules
     Megajoules(count * thousandth)
 }
 
-// The gas of some hours together.
+// The gas of some hours together. That hours are `Within` is asked of each part of a list: a type would be made anew for each.
 pub fn gas_of(hours: &[u64]) -> Megajoules
     requires { (length hours.now ≤ 24) × Within hours.now }
     ensures { result.0 ≡ sum (length hours.now) (col hours.now) }

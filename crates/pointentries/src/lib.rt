@@ -50,7 +50,7 @@ fn examine(walk: Walk, side: u8, point: u16) -> Result<(), Refusal>
     walk.check()
 }
 
-// The first of 01's tests that the list asked for, or what is asked, fails.
+// The first of 01's tests that the list asked for, or what is asked, fails. Any number may be asked for as a side: 3 from 2 on.
 pub fn check_entries(receipt: &[u8], delivery: &[u8], side: u8, point: u16) -> Result<(), Refusal>
     ensures { result ≡ entries_check receipt.now delivery.now side point }
 {

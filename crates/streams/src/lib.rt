@@ -11,7 +11,7 @@ use std::env::{Env, FillError};
 use std::io::{self, Read, Write};
 use units::Refusal;
 
-// What a buffer for a line holds, and one for a file or its listing.
+// What a buffer for a line holds, and one for a file or its listing. Arrays: the programs have no heap.
 pub const BUFFER: usize = 4_096;
 
 pub const LARGE_BUFFER: usize = 65_536;

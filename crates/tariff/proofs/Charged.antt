@@ -4,7 +4,7 @@ use mathlib.Core.Path.{◌≡◌}
 use Prim.Native.Nat.{ℕ, ◌≤◌}
 use borrow.Author.Tests.{leb-true, le-leb}
 use Rattle.units.specs.Bound.{most_gigajoules, most_chargeable, most_requests, most_rate}
-use Rattle.units.specs.Refusals.{◌then◌, keep, first_refusal}
+use Rattle.units.specs.Refusals.{keep, first_refusal}
 use Rattle.units.specs.declared.Megajoules.{Megajoules}
 use Rattle.units.specs.declared.Rate.{Rate}
 use Rattle.units.proofs.Checks.{both-accepted, kept}

@@ -19,7 +19,7 @@ pub const MOST_REQUESTS: u32 = 1_000;
 pub const MOST_RATE: Rate = Rate(100_000_000);
 // CPI in tenths
 pub const MOST_CPI: u32 = 100_000;
-// rows of every list of shippers
+// rows of every list of shippers; no heap, so lists are arrays of so many, here and above
 pub const MOST_ROWS: usize = 64;
 // capacity of a round called alone
 pub const MOST_CAPACITY: Gigajoules = Gigajoules(2_000_000);

@@ -1,10 +1,6 @@
 -- While each day is accepted the account is the one after the rows gone over; the first refusal ends it.
-use Prim.Native.Nat.{◌-◌}
 use Rattle.monthlisting.proofs.Handing.{Handing}
 use Rattle.monthlisting.proofs.rows.hand_in.Given as goal
 
 abbrev pub invariant-loop-row : goal.invariant-loop-row
 invariant-loop-row l = Handing l.numbers l.row l.account
-
-abbrev pub decreases-loop-row : goal.decreases-loop-row
-decreases-loop-row l = l.rows - l.row

@@ -19,6 +19,3 @@ brought hours excused = col (compared (received hours) (received excused))
 abbrev pub invariant-loop-hour : goal.invariant-loop-hour
 invariant-loop-hour l =
     Adding 24 (greater_excess (taken l.hours l.excused) (brought l.hours l.excused) l.most_delivered.0 l.most_received.0) l.hour l.total
-
-abbrev pub decreases-loop-hour : goal.decreases-loop-hour
-decreases-loop-hour l = 24 - l.hour

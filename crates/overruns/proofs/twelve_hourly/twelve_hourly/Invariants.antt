@@ -6,6 +6,3 @@ use Rattle.overruns.proofs.twelve_hourly.twelve_hourly.Given as goal
 
 abbrev pub invariant-loop-h : goal.invariant-loop-h
 invariant-loop-h l = Added l.p.0 l.m.0 (col l.hours) l.h l.sum.0 l.total
-
-abbrev pub decreases-loop-h : goal.decreases-loop-h
-decreases-loop-h l = 25 - l.h
