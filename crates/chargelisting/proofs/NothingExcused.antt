@@ -1,4 +1,5 @@
 -- C-14: a shipper without a tag 9 field has the overruns of before, and a day or a file without any the text of before.
+use Rattle.std.specs.Prelude.{Ok}
 use mathlib.Core.Path.{◌≡◌, ap, ◌∙◌, fun_ext}
 use mathlib.Core.List.{List, ◌++◌}
 use Prim.Native.Nat.{ℕ, ◌≤◌}
@@ -47,6 +48,6 @@ text-former rate day numbers none =
     ap (λ figures. head_line day.head.day rate ++ joined (count day.counts Meter) (λ row. line (decimals (figures row))))
     (fun_ext (λ row. figures-former day.counts numbers row rate none))
 
-pub listing-former : (rate : Rate) (file : List ℕ) → NoneExcused file → (walked file).fault ≡ 0
+pub listing-former : (rate : Rate) (file : List ℕ) → NoneExcused file → (walked file).found ≡ Ok tt
     → charges_listing rate file ≡ former_text rate (day_of file) (tables file).numbers
 listing-former rate file none accepted = text-former rate (day_of file) (tables file).numbers ((as_before file none).none accepted)

@@ -6,8 +6,9 @@ use Rattle.units.proofs.Determined.{determined}
 use Rattle.dayformat.specs.declared.form.Tag.{Tag}
 use Rattle.dayformat.specs.declared.layout.Counts.{Counts}
 use Rattle.dayrows.specs.declared.Source.{Source}
+use Rattle.dayrows.specs.Fault.{Found}
 use Rattle.dayfields.specs.Field.{Taken}
 
-pub taken_determined : {source : Source} {counts : Counts} {file : List ℕ} {tag : Tag} {at row : ℕ} {lent l₁ l₂ : List ℕ} {n₁ n₂ : ℕ}
-    → Taken source counts file tag at row lent l₁ n₁ → Taken source counts file tag at row lent l₂ n₂ → (n₁ ≡ n₂) × (l₁ ≡ l₂)
+pub taken_determined : {source : Source} {counts : Counts} {file : List ℕ} {tag : Tag} {at row : ℕ} {lent l₁ l₂ : List ℕ} {f₁ f₂ : Found}
+    → Taken source counts file tag at row lent l₁ f₁ → Taken source counts file tag at row lent l₂ f₂ → (f₁ ≡ f₂) × (l₁ ≡ l₂)
 taken_determined a b = (determined a.answers b.answers, determined a.lays b.lays)

@@ -7,9 +7,9 @@ ghost use Rattle.dayfields.specs.Field.{Taken};
 
 use crate::row::read_row;
 use dayformat::{Counts, HEADER, Tag, row_place};
-use dayrows::{Source, breaks, row_fault};
+use dayrows::{Fault, Source, Tables, breaks, row_fault};
 
-// The number that refuses the field at a byte, 0 for none. The row of a field that is whole goes into the numbers.
+// The first fault of the field at a byte. The row of a field that is whole goes into the numbers.
 pub fn take_field(
     source: Source,
     counts: Counts,
@@ -18,13 +18,10 @@ pub fn take_field(
     at: usize,
     row: u32,
     numbers: &mut [usize],
-) -> u8
+) -> Result<(), Fault>
     ensures { Taken source counts file.now tag at row numbers.old numbers.new result }
 {
-    let broken = breaks(file, tag, at);
-    if broken != 0 {
-        return broken;
-    }
+    breaks(file, tag, at)?;
     read_row(file, tag, at + HEADER, numbers, row_place(counts, tag, row));
-    row_fault(source, counts, numbers, tag, row)
+    row_fault(source, Tables { counts, numbers }, tag, row)
 }

@@ -49,7 +49,7 @@ module _ (t : Tested) where
     pub accepted-fits : t.count ≤ length t.lent
     accepted-fits = rw t.counted (leb-true _ _ (kept _ _ both.1))
 
-    sound : t.walk.fault ≡ 0
+    sound : t.walk.found ≡ Ok tt
     sound = faultless t.walk both.0
 
     pub accepted-there : t.count ≤ length t.numbers

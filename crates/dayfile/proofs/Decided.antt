@@ -1,10 +1,9 @@
--- The tests decide an answer of `read_day`: a file's walk finds one of 1 to 5 at a byte of a full day's file, or nothing, and then
+-- The tests decide an answer of `read_day`: a file's walk finds a fault at a byte of a full day's file, or nothing, and then
 -- the block's room is tested.
 use Rattle.std.specs.Prelude.{Result}
 use mathlib.Core.Path.{refl}
 use mathlib.Core.List.{List}
 use Prim.Native.Nat.{ℕ}
-use native.Mathlib.Omega.{arith}
 use lib.ListN.{length}
 use Rattle.units.specs.Verdict.{Decided}
 use Rattle.units.proofs.Places.{PlacedTo, ◌then_if◌, plainly}
@@ -20,10 +19,10 @@ use Rattle.units.specs.declared.refusal.Refusal.{Refusal}
 
 -- ---- for callers: what a file's own refusal has
 pub file_numbered : (file : List ℕ) → AllNumbered (file_check (walked file))
-file_numbered file = walk_numbered (walked file) (omega (arith, (walked_reached file).fault))
+file_numbered file = walk_numbered (walked file)
 
 pub file-placed : (file : List ℕ) → PlacedTo most_file (file_check (walked file))
-file-placed file = refuses_walk _ (walked file) (λ some. (walked_reached file).place)
+file-placed file = refuses_walk _ (walked file) (λ fault. (walked_reached file).place)
 
 -- ---- the reader
 reading_numbered : (file : List ℕ) (room : ℕ) → AllNumbered (reading_check file room)

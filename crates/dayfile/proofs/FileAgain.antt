@@ -4,7 +4,7 @@ use mathlib.Core.Bool.{true}
 use mathlib.Core.List.{List, append-nil}
 use Prim.Native.Nat.{ℕ, zero, suc, ◌+◌, ◌≤◌, ◌<◌}
 use native.Mathlib.Omega.{arith}
-use borrow.Author.Tests.{eq-eqb}
+use Rattle.std.specs.Prelude.{Ok}
 use lib.ListN.{take, drop}
 use lib.Seq.{take_all, drop-drop}
 use Rattle.columns.specs.Column.{col, listed, joined}
@@ -25,6 +25,7 @@ use Rattle.dayrows.specs.Test.{in_bounds}
 use Rattle.dayrows.specs.Private.{Sound}
 use Rattle.dayrows.specs.Whole.{broken}
 use Rattle.dayrows.proofs.Faults.{fault-none}
+use Rattle.dayrows.proofs.Finding.{none-ok}
 use Rattle.dayrows.proofs.Within.{passes-bounded, within-bounds}
 use Rattle.dayrows.proofs.Breaking.{Whole, broken-none}
 use Rattle.dayruns.specs.Run.{place_of, rows_of}
@@ -41,7 +42,7 @@ pub head-numbers : (file : List ℕ) → decode (widths Head) (drop 3 file) ≡ 
 unfolding decode listed column_in size
 head-numbers file = rw (drop-drop 4 3 file, drop-drop 4 7 file)
 
-module _ (file : List ℕ) (none : head_fault file ≡ 0) where
+module _ (file : List ℕ) (none : head_fault file ≡ Ok tt) where
   first : place_of (head_fields file) 0 ≡ 0
   first = omega arith
 
@@ -53,7 +54,7 @@ module _ (file : List ℕ) (none : head_fault file ≡ 0) where
 
   head-place : (headed file).place ≡ field_size Head
   unfolding headed
-  head-place = rw (eq-eqb (head_fault file) 0 none)
+  head-place = rw (none-ok none)
 
   reread_head : Reread file 0 (tables_to file 0)
   unfolding tables_to headed joined
@@ -85,23 +86,23 @@ module _ (file : List ℕ) (none : head_fault file ≡ 0) where
 
 -- ---- the tables before a sound one are sound, and so is the head
 module _ (file : List ℕ) where
-  sound-before : (n : ℕ) → (tables_to file (suc n)).walk.fault ≡ 0 → (tables_to file n).walk.fault ≡ 0
+  sound-before : (n : ℕ) → (tables_to file (suc n)).walk.found ≡ Ok tt → (tables_to file n).walk.found ≡ Ok tt
   unfolding tables_to
   sound-before n sound = (tabled-none file (tag_at n) (tables_to file n) sound).0
 
-  sound-head : (n : ℕ) → (tables_to file n).walk.fault ≡ 0 → head_fault file ≡ 0
+  sound-head : (n : ℕ) → (tables_to file n).walk.found ≡ Ok tt → head_fault file ≡ Ok tt
   unfolding tables_to headed
   sound-head zero sound = sound
   sound-head (suc n) sound = sound-head n (sound-before n sound)
 
-  pub reread : (n : ℕ) → n ≤ many_tables → (tables_to file n).walk.fault ≡ 0 → Reread file n (tables_to file n)
+  pub reread : (n : ℕ) → n ≤ many_tables → (tables_to file n).walk.found ≡ Ok tt → Reread file n (tables_to file n)
   unfolding tables_to
   reread zero l sound = reread_head file (sound-head 0 sound)
   reread (suc n) l sound = reread_more file n l (tables_to file n) (reread n (omega (arith, l)) (sound-before n sound)) sound
 
 -- ---- the whole file
-module _ (file : List ℕ) (none : (walked file).fault ≡ 0) where
-  sound : (tables file).walk.fault ≡ 0
+module _ (file : List ℕ) (none : (walked file).found ≡ Ok tt) where
+  sound : (tables file).walk.found ≡ Ok tt
   sound = (ended-none file (tables file).walk none).0
 
   whole-file : Reread file many_tables (tables file)

@@ -6,8 +6,7 @@ use mathlib.Core.List.{List, ◌++◌, append_assoc}
 use Prim.Native.Nat.{ℕ, suc, ◌+◌, ◌*◌, ◌<◌}
 use native.Mathlib.Nat.{eq-or-lt_of_le, le_of_suc-le-suc}
 use native.Mathlib.Omega.{arith}
-use borrow.Author.Tests.{eqb-true, eqb-false}
-use lib.Dec.{eqb}
+use Rattle.std.specs.Prelude.{Ok, is_ok}
 use lib.ListN.{length, take, length-append}
 use lib.Seq.{take-add}
 use Rattle.columns.specs.Column.{col, joined}
@@ -26,6 +25,7 @@ use Rattle.dayformat.proofs.Layouts.{agree-rows, few_with, none_with, starts-aft
 use Rattle.dayrows.specs.declared.Source.TheVariants.{File}
 use Rattle.dayrows.specs.declared.Test.{Test}
 use Rattle.dayrows.specs.Test.{passes}
+use Rattle.dayrows.proofs.Finding.{ok-none, not_ok-some}
 use Rattle.dayrows.proofs.Same.{start-same}
 use Rattle.dayruns.specs.Run.{Fields, row_of, rows_of, stops}
 use Rattle.dayruns.specs.Walk.{walk_after}
@@ -35,15 +35,15 @@ use Rattle.dayfile.proofs.Leading.{Leads, leads-append, leads_trans, row_stands}
 use Rattle.dayfile.proofs.SoundRuns.{run-bytes, run-passes}
 
 -- a run after which there is no fault had none before it
-pub tabled-none : (file : List ℕ) (tag : Tag) (T : Tables) → (tabled file tag T).walk.fault ≡ 0
-    → (T.walk.fault ≡ 0)
+pub tabled-none : (file : List ℕ) (tag : Tag) (T : Tables) → (tabled file tag T).walk.found ≡ Ok tt
+    → (T.walk.found ≡ Ok tt)
     × (tabled file tag T
     ≡ record {
       walk = walk_after T.walk tag (table_run file tag T);
       numbers = T.numbers ++ rows_of (fields_from file T.walk tag) (table_run file tag T).rows;
     })
 unfolding tabled
-tabled-none file tag T = by (eqb T.walk.fault 0) refl
+tabled-none file tag T = by (is_ok T.walk.found) refl
   where
     more : Tables
     more =
@@ -52,10 +52,10 @@ tabled-none file tag T = by (eqb T.walk.fault 0) refl
           numbers = T.numbers ++ rows_of (fields_from file T.walk tag) (table_run file tag T).rows;
         }
 
-    by : (sound : Bool) → eqb T.walk.fault 0 ≡ sound → (cond sound more T).walk.fault ≡ 0
-        → (T.walk.fault ≡ 0) × (cond sound more T ≡ more)
-    by true s e = (eqb-true _ _ s, refl)
-    by false s e = absurd (eqb-false _ _ s e)
+    by : (sound : Bool) → is_ok T.walk.found ≡ sound → (cond sound more T).walk.found ≡ Ok tt
+        → (T.walk.found ≡ Ok tt) × (cond sound more T ≡ more)
+    by true s e = (ok-none _ s, refl)
+    by false s e = absurd (not_ok-some _ s e)
 
 -- every row of a table passes every test
 abbrev pub AllPass : Counts → (ℕ → ℕ) → Tag → Type 0
@@ -133,7 +133,7 @@ module _ (file : List ℕ) (n : ℕ) (l : n < many_tables) (T : Tables) (R : Rer
           (λ below. R.pass counts numbers before front place below)
           (eq-or-lt_of_le (le_of_suc-le-suc k))
 
-  pub reread_more : (tabled file tag T).walk.fault ≡ 0 → Reread file (suc n) (tabled file tag T)
+  pub reread_more : (tabled file tag T).walk.found ≡ Ok tt → Reread file (suc n) (tabled file tag T)
   reread_more sound =
       rw (tabled-none file tag T sound).1
       (record {

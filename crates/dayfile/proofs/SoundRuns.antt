@@ -6,6 +6,7 @@ use Prim.Native.Nat.{ℕ, suc, ◌*◌, ◌<◌}
 use native.Mathlib.Omega.{arith}
 use lib.ListN.{length, take, drop, length-append}
 use lib.Seq.{drop-drop}
+use Rattle.std.specs.Prelude.{Ok}
 use Rattle.columns.specs.Column.{col, joined}
 use Rattle.columns.proofs.Firsts.{first-before}
 use Rattle.columns.proofs.Joined.{joined_same, joined_parts, length-joined}
@@ -26,7 +27,7 @@ use Rattle.dayfile.proofs.Leading.{Leads, leads_trans, leads-rows}
 
 module _ (F : Fields) (read : ℕ → ℕ → ℕ) where
   -- every field before the run's end is sound
-  pub sound-field : (row : ℕ) → row < run_rows F read → field_fault F read row ≡ 0
+  pub sound-field : (row : ℕ) → row < run_rows F read → field_fault F read row ≡ Ok tt
   sound-field row l = goes_sound F read row (first-before (stops F read) (form F.tag).most row l)
 
   pub sound-whole : (row : ℕ) → row < run_rows F read → Whole F.file F.tag (place_of F row)

@@ -3,6 +3,7 @@ use mathlib.Core.Path.{◌≡◌, ap, sym, ◌∙◌}
 use mathlib.Core.List.{List}
 use Prim.Native.Nat.{ℕ, suc, ◌<◌}
 use lib.ListN.{length, replicate, length-replicate}
+use Rattle.std.specs.Prelude.{Ok}
 use Rattle.columns.specs.Column.{col}
 use Rattle.dayformat.specs.Format.{many_tables, tag_at}
 use Rattle.dayformat.specs.Layout.{numbers_in, most_numbers}
@@ -60,8 +61,8 @@ stage_last file {last = last} {list = list} S e =
     whole : last ≡ ended file (tables file).walk
     whole = e ∙ ap (ended file) S.is
 
-    sound : last.fault ≡ 0 → (ended file (tables file).walk).fault ≡ 0
-    sound none = ap (λ walk. walk.fault) (sym whole) ∙ none
+    sound : last.found ≡ Ok tt → (ended file (tables file).walk).found ≡ Ok tt
+    sound none = ap (λ walk. walk.found) (sym whole) ∙ none
 
-    held : last.fault ≡ 0 → Held (tables file) list
+    held : last.found ≡ Ok tt → Held (tables file) list
     held none = (S.ready (ended-none file (tables file).walk (sound none)).0).0

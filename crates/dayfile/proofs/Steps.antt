@@ -1,20 +1,22 @@
 -- One step of the walk through a file.
 use mathlib.Core.Path.{◌≡◌, ap, sym, ◌∙◌}
+use mathlib.Core.Bool.{true, false}
 use mathlib.Core.List.{List, []}
 use Prim.Native.Nat.{ℕ, ◌+◌}
 use native.Mathlib.Omega.{arith}
-use borrow.Author.Tests.{eq-eqb, ne_eqb}
 use lib.ListN.{length, drop, replicate}
+use Rattle.std.specs.Prelude.{Ok, is_ok}
 use Rattle.columns.specs.Column.{col, listed, joined}
 use Rattle.columns.specs.Sum.{sum}
 use Rattle.bigendian.specs.Row.{size, decode}
 use Rattle.dayformat.specs.declared.form.Tag.{Tag}
-use Rattle.dayformat.specs.declared.form.Tag.TheVariants as Tag
 use Rattle.dayformat.specs.declared.layout.Counts.{Counts}
 use Rattle.dayformat.specs.Format.{column_in, widths}
 use Rattle.dayformat.specs.Layout.{no_rows, with_count}
 use Rattle.dayrows.specs.declared.Source.TheVariants as Source
+use Rattle.dayrows.specs.Fault.{Found}
 use Rattle.dayrows.specs.Whole.{with_row}
+use Rattle.dayrows.proofs.Finding.{none-ok}
 use Rattle.dayfields.specs.Field.{Taken}
 use Rattle.dayruns.specs.declared.run.Run.{Run}
 use Rattle.dayruns.specs.declared.walk.Walk.{Walk}
@@ -37,27 +39,27 @@ head-laid file =
     (omega (arith, ap length row, length-row (head_fields file) 0))
     ∙ ap col (sym row)
 
-module _ (file : List ℕ) {after : List ℕ} {number : ℕ} (T : Taken Source.File no_rows file Tag.Head 0 0 (replicate 3 0) after number)
+module _ (file : List ℕ) {after : List ℕ} {found : Found} (T : Taken Source.File no_rows file Tag.Head 0 0 (replicate 3 0) after found)
   where
-    head-number : number ≡ head_fault file
+    head-found : found ≡ head_fault file
     unfolding field_fault
-    head-number = T.answers ∙ rw (head-laid file, head_first file)
+    head-found = T.answers ∙ rw (head-laid file, head_first file)
 
-    pub headed-faulty : (number ≡ 0 → ⊥) → record { fault = number; place = 0; counts = no_rows } ≡ headed file
+    pub headed-faulty : is_ok found ≡ false → record { found = found; place = 0; counts = no_rows } ≡ headed file
     unfolding headed
-    headed-faulty some = rw (← head-number, ne_eqb number 0 some)
+    headed-faulty some = rw (← head-found, some)
 
-    pub headed-sound : number ≡ 0 → record { fault = number; place = 15; counts = no_rows } ≡ headed file
+    pub headed-sound : is_ok found ≡ true → record { found = found; place = 15; counts = no_rows } ≡ headed file
     unfolding headed listed size column_in
-    headed-sound none = rw (← head-number, eq-eqb number 0 none)
+    headed-sound none = rw (← head-found, none)
 
 -- the run of a tag's fields
 pub tabled_on : (walk : Walk) (file : List ℕ) (tag : Tag) (lent : List ℕ) {after : List ℕ} {run : Run} {counts : Counts}
-    → walk.fault ≡ 0 → Ran (fields_from file walk tag) lent after run → counts ≡ with_count walk.counts tag run.rows
-    → Tabled walk file tag lent after (record { fault = run.fault; place = run.place; counts = counts })
+    → walk.found ≡ Ok tt → Ran (fields_from file walk tag) lent after run → counts ≡ with_count walk.counts tag run.rows
+    → Tabled walk file tag lent after (record { found = run.found; place = run.place; counts = counts })
 tabled_on walk file tag lent none R w =
     record {
-      answers = rw (eq-eqb walk.fault 0 none, w) (ap (walk_after walk tag) R.answers);
+      answers = rw (none-ok none, w) (ap (walk_after walk tag) R.answers);
       lays = λ on sound. ran_sound (fields_from file walk tag) lent R sound
           ∙ ap (λ run. laid (fields_from file walk tag) lent run.rows) R.answers;
     }

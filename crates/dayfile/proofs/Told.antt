@@ -44,7 +44,7 @@ module _ (file lent numbers : List ℕ) (reading : Result Day Refusal) (R : Read
   lent-room = rw told.1 (leb-true _ _ (kept _ _ both.1))
 
   -- the file has no fault
-  pub none : (walked file).fault ≡ 0
+  pub none : (walked file).found ≡ Ok tt
   none = faultless (walked file) both.0
 
   pub taken-numbers : take (numbers_in day.counts) numbers ≡ (tables file).numbers

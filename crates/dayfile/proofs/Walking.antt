@@ -4,18 +4,16 @@ use mathlib.Core.Bool.{Bool, true, false}
 use mathlib.Core.List.{List, ◌++◌}
 use Prim.Native.Nat.{ℕ, suc, ◌≤◌, ◌<◌}
 use native.Mathlib.Omega.{arith}
-use borrow.Author.Tests.{eq-eqb, eqb-true, eqb-false}
-use lib.Dec.{eqb}
+use Rattle.std.specs.Prelude.{Ok, is_ok}
 use lib.ListN.{length, length-append}
 use Rattle.columns.specs.Column.{col}
-use Rattle.columns.specs.First.{first}
 use Rattle.columns.proofs.Firsts.{first_le}
 use Rattle.dayformat.specs.declared.form.Tag.{Tag}
 use Rattle.dayformat.specs.Format.{many_tables, tag_at, form}
 use Rattle.dayformat.specs.Layout.{table_start, numbers_in, most_numbers}
 use Rattle.dayformat.specs.Private.{Few, NoneFrom}
 use Rattle.dayformat.proofs.Layouts.{few_with, none_with, starts-after, grown, room_after}
-use Rattle.dayrows.specs.Test.{fault}
+use Rattle.dayrows.proofs.Finding.{none-ok, ok-none, not_ok-some}
 use Rattle.dayruns.specs.declared.run.Run.{Run}
 use Rattle.dayruns.specs.declared.walk.Walk.{Walk}
 use Rattle.dayruns.specs.Run.{Fields, rows_of, stops, run_of, laid}
@@ -33,7 +31,7 @@ pub record Held (T : Tables) (lent : List ℕ) : Type 0 where
 
 -- so it is after the runs of so many tags, unless a fault is found
 abbrev pub Ready : ℕ → Tables → List ℕ → Type 0
-Ready many T lent = T.walk.fault ≡ 0 → Held T lent × NoneFrom many T.walk.counts
+Ready many T lent = T.walk.found ≡ Ok tt → Held T lent × NoneFrom many T.walk.counts
 
 module _ (file : List ℕ) (n : ℕ) (l : n < many_tables) (T : Tables) (lent : List ℕ) (room : length lent ≡ most_numbers)
     (ready : Ready n T lent) where
@@ -46,7 +44,7 @@ module _ (file : List ℕ) (n : ℕ) (l : n < many_tables) (T : Tables) (lent : 
   abbrev lent_run : Run
   lent_run = run_of F (λ many. col (laid F lent many))
 
-  module _ (none : T.walk.fault ≡ 0) where
+  module _ (none : T.walk.found ≡ Ok tt) where
     held : Held T lent
     held = (ready none).0
 
@@ -68,7 +66,7 @@ module _ (file : List ℕ) (n : ℕ) (l : n < many_tables) (T : Tables) (lent : 
         × NoneFrom (suc n) (tabled file tag T).walk.counts
     unfolding tabled
     held_next lays =
-        let on = eq-eqb T.walk.fault 0 none in
+        let on = none-ok none in
         let rows = (table_run file tag T).rows in
         rw on (
           record {
@@ -89,18 +87,18 @@ module _ (file : List ℕ) (n : ℕ) (l : n < many_tables) (T : Tables) (lent : 
   module _ {after : List ℕ} {next : Walk} (B : Tabled T.walk file tag lent after next) where
     pub table-answers : next ≡ (tabled file tag T).walk
     unfolding tabled
-    table-answers = by (eqb T.walk.fault 0) refl
+    table-answers = by (is_ok T.walk.found) refl
       where
-        by : (sound : Bool) → eqb T.walk.fault 0 ≡ sound → next ≡ (tabled file tag T).walk
-        by true e = B.answers ∙ rw e (ap (walk_after T.walk tag) (lent_same (eqb-true _ _ e)))
+        by : (sound : Bool) → is_ok T.walk.found ≡ sound → next ≡ (tabled file tag T).walk
+        by true e = B.answers ∙ rw e (ap (walk_after T.walk tag) (lent_same (ok-none _ e)))
         by false e = B.answers ∙ rw e
 
     pub table-ready : Ready (suc n) (tabled file tag T) after
     unfolding tabled
-    table-ready = by (eqb T.walk.fault 0) refl
+    table-ready = by (is_ok T.walk.found) refl
       where
-        by : (sound : Bool) → eqb T.walk.fault 0 ≡ sound → Ready (suc n) (tabled file tag T) after
+        by : (sound : Bool) → is_ok T.walk.found ≡ sound → Ready (suc n) (tabled file tag T) after
         by true e none =
-            let first = eqb-true _ _ e in
-            held_next first (B.lays first (ap (λ walk. walk.fault) table-answers ∙ none))
-        by false e none = absurd (eqb-false _ _ e (rw e at none))
+            let first = ok-none _ e in
+            held_next first (B.lays first (ap (λ walk. walk.found) table-answers ∙ none))
+        by false e none = absurd (not_ok-some _ e (rw e at none))

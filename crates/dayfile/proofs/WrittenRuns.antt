@@ -7,6 +7,7 @@ use Prim.Native.Nat.{ℕ, suc, ◌+◌, ◌-◌, ◌≤◌, ◌<◌}
 use native.Mathlib.Nat.{eq-or-lt_of_le}
 use native.Mathlib.Omega.{arith}
 use lib.ListN.{length, length-append}
+use Rattle.std.specs.Prelude.{Ok}
 use Rattle.columns.specs.Column.{joined}
 use Rattle.columns.proofs.Firsts.{first_found, first-none}
 use Rattle.columns.proofs.Joined.{joined_same, joined-split, length-joined}
@@ -83,7 +84,7 @@ module _ (F : Fields) (W : Written F) where
       ∙ begun-apart (W.ahead ++ joined W.many fields_of) W.rest F.tag W.apart
 
   module _ (read : ℕ → ℕ → ℕ)
-      (sound : (i : ℕ) → i < W.many → fault F.source F.counts (read (suc i)) F.tag i ≡ 0) where
+      (sound : (i : ℕ) → i < W.many → fault F.source F.counts (read (suc i)) F.tag i ≡ Ok tt) where
     goes_on : (i : ℕ) → i < W.many → stops F read i ≡ false
     unfolding stops field_fault
     goes_on i l =
@@ -104,5 +105,5 @@ module _ (F : Fields) (W : Written F) where
         (λ l. first_found (stops F read) (form F.tag).most W.many l goes_on stops-there)
         (eq-or-lt_of_le W.few)
 
-    pub run-again : run_of F read ≡ record { rows = W.many; place = place_of F W.many; fault = 0 }
+    pub run-again : run_of F read ≡ record { rows = W.many; place = place_of F W.many; found = Ok tt }
     run-again = rw (rows_all, over)

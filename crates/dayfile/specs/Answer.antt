@@ -34,6 +34,6 @@ pub record ReadingAnswered (file lent after : List ℕ) (reading : Result Day Re
 
 -- the reader accepts a file, and the day with its numbers is what it answers
 pub record Reads (file : List ℕ) (day : Day) (numbers : List ℕ) : Type 0 where
-  pub accepted : (walked file).fault ≡ 0
+  pub accepted : (walked file).found ≡ Ok tt
   pub day_is : day_of file ≡ day
   pub numbers_are : (tables file).numbers ≡ numbers

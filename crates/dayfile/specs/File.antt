@@ -1,13 +1,12 @@
 -- 01, "The day file": a head, then the fields of each tag in order, then nothing.
-use Rattle.std.specs.Prelude.{cond, List, [], ◌++◌, ℕ, zero, suc, eqb}
+use Rattle.std.specs.Prelude.{cond, List, [], ◌++◌, ℕ, zero, suc, is_ok}
 use Rattle.columns.specs.Column.{col}
 use Rattle.dayformat.specs.declared.day.Head.{Head}
 use Rattle.dayformat.specs.declared.form.Tag.{Tag}
-use Rattle.dayformat.specs.declared.form.Tag.TheVariants as Tag
 use Rattle.dayformat.specs.Format.{many_tables, tag_at, field_size, number_in}
 use Rattle.dayformat.specs.Layout.{no_rows}
 use Rattle.dayrows.specs.declared.Source.{Source}
-use Rattle.dayrows.specs.declared.Source.TheVariants as Source
+use Rattle.dayrows.specs.Fault.{Found}
 use Rattle.dayruns.specs.declared.run.Run.{Run}
 use Rattle.dayruns.specs.declared.walk.Walk.{Walk}
 use Rattle.dayruns.specs.Run.{Fields, rows_of, field_fault, run_of}
@@ -26,12 +25,12 @@ fields_from file walk tag =
 abbrev pub head_fields : List ℕ → Fields
 head_fields file = record { source = Source.File; counts = no_rows; file = file; at = 0; tag = Tag.Head }
 
-abbrev pub head_fault : List ℕ → ℕ
+abbrev pub head_fault : List ℕ → Found
 head_fault file = field_fault (head_fields file) (λ rows. col (rows_of (head_fields file) rows)) 0
 
 unfoldable pub headed : List ℕ → Walk
 headed file =
-    record { fault = head_fault file; place = cond (eqb (head_fault file) 0) (field_size Tag.Head) 0; counts = no_rows }
+    record { found = head_fault file; place = cond (is_ok (head_fault file)) (field_size Tag.Head) 0; counts = no_rows }
 
 abbrev pub head_of : List ℕ → Head
 head_of file =
@@ -49,7 +48,7 @@ table_run file tag T =
 
 unfoldable pub tabled : List ℕ → Tag → Tables → Tables
 tabled file tag T =
-    cond (eqb T.walk.fault 0)
+    cond (is_ok T.walk.found)
     (record {
       walk = walk_after T.walk tag (table_run file tag T);
       numbers = T.numbers ++ rows_of (fields_from file T.walk tag) (table_run file tag T).rows;

@@ -14,16 +14,16 @@ fn begin(file: &[u8]) -> Walk
     ensures { result ≡ headed file.now }
 {
     let mut row = [0usize; 3];
-    let fault = take_field(Source::File, NO_ROWS, file, Tag::Head, 0, 0, &mut row);
-    if fault != 0 {
+    let found = take_field(Source::File, NO_ROWS, file, Tag::Head, 0, 0, &mut row);
+    if found.is_err() {
         return Walk {
-            fault,
+            found,
             place: 0,
             counts: NO_ROWS,
         };
     }
     Walk {
-        fault,
+        found,
         place: HEAD_FIELD,
         counts: NO_ROWS,
     }
@@ -34,12 +34,12 @@ fn walk_table(walk: Walk, file: &[u8], tag: Tag, numbers: &mut [usize]) -> Walk
     ensures { Tabled walk file.now tag numbers.old numbers.new result }
 {
     let counts = walk.counts;
-    if walk.fault != 0 {
+    if walk.found.is_err() {
         return walk;
     }
     let run = run_fields(Source::File, counts, file, tag, walk.place, numbers);
     Walk {
-        fault: run.fault,
+        found: run.found,
         place: run.place,
         counts: counts.with(tag, run.rows),
     }

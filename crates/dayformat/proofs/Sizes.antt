@@ -14,7 +14,6 @@ use Rattle.bigendian.proofs.Numbers.{length-bytes}
 use Rattle.bigendian.proofs.Rows.{length-encode}
 use Rattle.dayformat.specs.declared.day.Day.{Day}
 use Rattle.dayformat.specs.declared.form.Tag.{Tag}
-use Rattle.dayformat.specs.declared.form.Tag.TheVariants as Tag
 use Rattle.dayformat.specs.declared.layout.Counts.{Counts}
 use Rattle.dayformat.specs.Format.{many_tables, tag_at, column_in, widths, field_size, form, field}
 use Rattle.dayformat.specs.Layout.{count, row_start, run_size, bytes_before, file_size}

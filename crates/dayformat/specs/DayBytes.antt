@@ -4,7 +4,6 @@ use Rattle.columns.specs.Column.{listed, joined}
 use Rattle.dayformat.specs.declared.day.Day.{Day}
 use Rattle.dayformat.specs.declared.day.Head.{Head}
 use Rattle.dayformat.specs.declared.form.Tag.{Tag}
-use Rattle.dayformat.specs.declared.form.Tag.TheVariants as Tag
 use Rattle.dayformat.specs.declared.layout.Counts.{Counts}
 use Rattle.dayformat.specs.Format.{many_tables, tag_at, form, field}
 use Rattle.dayformat.specs.Layout.{count, row_start}

@@ -9,3 +9,4 @@ pub mod SoundRows
 pub mod Enough
 pub mod Breaking
 pub mod Capping
+pub mod Finding

@@ -1,3 +1,4 @@
+pub mod Fault
 pub mod Test
 pub mod Private
 pub mod Whole

@@ -1,5 +1,5 @@
 -- 01, "The day file" and "Refusal numbers": the tests of a row among a day's numbers, for a file and for the writer alike.
-use Rattle.std.specs.Prelude.{Bool, true, false, cond, not, List, [], ◌∷◌, ℕ, zero, suc, ◌+◌, leb, ltb, eqb}
+use Rattle.std.specs.Prelude.{Bool, true, false, cond, not, List, [], ◌∷◌, ℕ, zero, suc, ◌+◌, leb, ltb, eqb, Ok, Err}
 use Rattle.columns.specs.First.{first}
 use Rattle.daytable.specs.Acceptance.{idle}
 use Rattle.dayformat.specs.declared.form.Tag.{Tag}
@@ -9,10 +9,12 @@ use Rattle.dayformat.specs.declared.body.Column.{Column}
 use Rattle.dayformat.specs.declared.layout.Counts.{Counts}
 use Rattle.dayformat.specs.Format.{body, names, mdqs, cap, first_name, column_in, form}
 use Rattle.dayformat.specs.Layout.{count, row_start}
+use Rattle.dayrows.specs.declared.fault.Fault.TheVariants as Fault
 use Rattle.dayrows.specs.declared.Source.{Source}
 use Rattle.dayrows.specs.declared.Source.TheVariants.{File, Side}
 use Rattle.dayrows.specs.declared.Test.{Test}
 use Rattle.dayrows.specs.declared.Test.TheVariants.{Bounds, Key, Mdq}
+use Rattle.dayrows.specs.Fault.{Found}
 
 -- ---- keys
 -- the first of so many numbers in which those from one place on differ from those from another
@@ -98,7 +100,7 @@ some_idle numbers at (pair ∷ rest) =
 abbrev pub starved : (ℕ → ℕ) → Tag → ℕ → Bool
 starved numbers tag at = some_idle numbers at (mdqs tag)
 
--- ---- the tests in 01's order, and the number of the first that a row fails, 0 for none
+-- ---- the tests in 01's order, and the fault of a row: the first that it fails
 unfoldable pub passes : Test → Source → Counts → (ℕ → ℕ) → Tag → ℕ → Bool
 passes Bounds source counts numbers tag row =
     let at = row_start counts tag row in
@@ -107,11 +109,13 @@ passes Key source counts numbers tag row =
     cond (rises counts numbers tag row) (names_known source counts numbers tag (row_start counts tag row)) false
 passes Mdq source counts numbers tag row = not (starved numbers tag (row_start counts tag row))
 
-unfoldable pub fault : Source → Counts → (ℕ → ℕ) → Tag → ℕ → ℕ
+unfoldable pub fault : Source → Counts → (ℕ → ℕ) → Tag → ℕ → Found
 fault source counts numbers tag row =
     cond (passes Bounds source counts numbers tag row)
-    (cond (passes Key source counts numbers tag row) (cond (passes Mdq source counts numbers tag row) 0 4) 5)
-    3
+    (cond (passes Key source counts numbers tag row)
+    (cond (passes Mdq source counts numbers tag row) (Ok tt) (Err Fault.Mdq))
+    (Err Fault.Key))
+    (Err Fault.Beyond)
 
 -- the lowest row of a table that fails a test, or the number of rows
 abbrev pub first_failing : Test → Counts → (ℕ → ℕ) → Tag → ℕ

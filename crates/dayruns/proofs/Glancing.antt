@@ -1,11 +1,11 @@
 -- A row that is laid again is laid as it was, so a field that is not seen to be sound can be taken afresh.
-use mathlib.Core.Path.{◌≡◌, refl, ap, ap₂, sym, ◌∙◌}
+use mathlib.Core.Path.{◌≡◌, ap, ap₂, sym, ◌∙◌}
 use mathlib.Core.Bool.{Bool, true, false, cond, true≢false}
 use mathlib.Core.List.{List, ◌++◌, append_assoc}
 use mathlib.Core.Logic.{⊎_elim}
 use Prim.Native.Nat.{ℕ, ◌+◌, ◌≤◌}
 use native.Mathlib.Omega.{arith}
-use borrow.Author.Tests.{eq-eqb}
+use Rattle.std.specs.Prelude.{Ok}
 use lib.Dec.{ltb}
 use lib.ListN.{length, take, drop, length-append}
 use lib.Seq.{sets, sets-eq, length-sets, length-take-le, take_at, drop_at}
@@ -21,8 +21,9 @@ use Rattle.dayrows.specs.declared.Source.{Source}
 use Rattle.dayrows.specs.declared.Source.TheVariants.{File}
 use Rattle.dayrows.specs.declared.Test.{Test}
 use Rattle.dayrows.specs.declared.Test.TheVariants.{Bounds, Key, Mdq}
+use Rattle.dayrows.specs.Fault.{Found}
 use Rattle.dayrows.specs.Test.{bounded, capped, rises, named, passes, fault}
-use Rattle.dayrows.specs.Whole.{broken, with_row}
+use Rattle.dayrows.specs.Whole.{with_row}
 use Rattle.dayrows.proofs.Faults.{none-fault}
 use Rattle.dayrows.proofs.Within.{both}
 use Rattle.dayfields.specs.Field.{Taken}
@@ -64,7 +65,7 @@ kept_under counts f tag row e under = let inside = both (ltb row (form tag).most
 
 sound-named : (counts : Counts) (f : ℕ → ℕ) (tag : Tag) (row : ℕ) → orderly counts f tag row ≡ true
     → named counts f tag (row_start counts tag row) ≡ true → capped counts f tag (row_start counts tag row) ≡ true
-    → fault File counts f tag row ≡ 0
+    → fault File counts f tag row ≡ Ok tt
 unfolding orderly
 sound-named counts f tag row e known under =
     let bounds = both _ _ e in
@@ -92,18 +93,17 @@ module _ (source : Source) (counts : Counts) (file : List ℕ) (tag : Tag) (at r
         let long : length numbers ≡ (form tag).columns = length-decode (widths tag) _ ∙ length-listed _ _ in
         sets_twice numbers lent (row_start counts tag row) (omega (arith, ready.1, long))
 
-    afresh : {last : List ℕ} {number : ℕ} → Taken source counts file tag at row (with_row counts file tag at row lent) last number
-        → Taken source counts file tag at row lent last number
-    afresh {last} {number} T =
-        let here = eq-eqb (broken file tag at) 0 ready.0 in
-        let there : last ≡ with_row counts file tag at row lent = T.lays ∙ rw (here, same) in
-        taken-whole source counts file tag at row lent (sym ready.0) refl there (T.answers ∙ rw (here, same, there))
+    afresh : {last : List ℕ} {found : Found} → Taken source counts file tag at row (with_row counts file tag at row lent) last found
+        → Taken source counts file tag at row lent last found
+    afresh {last} {found} T =
+        let there : last ≡ with_row counts file tag at row lent = T.lays ∙ rw (ready.0, same) in
+        taken-whole source counts file tag at row lent ready.0 there (T.answers ∙ rw (ready.0, same, there))
 
   module _ {after : List ℕ} {kept : Bool} (R : RowRead counts file tag at row lent after kept) where
     -- a row is laid as it was, or the numbers are left alone
-    again : {last : List ℕ} {number : ℕ} → Taken source counts file tag at row after last number
-        → Taken source counts file tag at row lent last number
-    again {last} {number} T =
+    again : {last : List ℕ} {found : Found} → Taken source counts file tag at row after last found
+        → Taken source counts file tag at row lent last found
+    again {last} {found} T =
         ⊎_elim (λ left. rw left at T) (λ laid. afresh laid.0 (rw laid.1 at T)) R.lays
 
     -- what is seen of a row besides
@@ -117,11 +117,11 @@ module _ (source : Source) (counts : Counts) (file : List ℕ) (tag : Tag) (at r
     pub glanced : {sound : Bool} → (sound ≡ true → Seen) → Glanced source counts file tag at row lent after sound
     glanced tells = record { sure = λ yes. sure (tells yes); again = again }
       where
-        sure : Seen → Taken source counts file tag at row lent after 0
+        sure : Seen → Taken source counts file tag at row lent after (Ok tt)
         sure seen =
             let read = R.keeps seen.0 in
             let none = sound-named counts (col after) tag row read.2 seen.2 seen.3 in
-            taken-whole source counts file tag at row lent (sym read.0.0) refl read.1 (rw seen.1 (sym none))
+            taken-whole source counts file tag at row lent read.0.0 read.1 (rw seen.1 (sym none))
 
     -- a row laid, and no more said of it
     pub unsure : Glanced source counts file tag at row lent after false

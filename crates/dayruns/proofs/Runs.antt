@@ -7,7 +7,7 @@ use native.Mathlib.Nat.{mul-le-mul_right}
 use native.Mathlib.Decide.{dec_lt}
 use native.Mathlib.Omega.{arith}
 use borrow.Author.Tests.{le-ltb}
-use lib.Dec.{eqb}
+use Rattle.std.specs.Prelude.{Err, is_ok}
 use lib.ListN.{length}
 use lib.Seq.{sets}
 use Rattle.columns.specs.Column.{col}
@@ -17,6 +17,7 @@ use Rattle.dayformat.specs.declared.layout.Counts.{Counts}
 use Rattle.dayformat.specs.Format.{form}
 use Rattle.dayformat.specs.Layout.{table_start}
 use Rattle.dayrows.specs.declared.Source.{Source}
+use Rattle.dayrows.specs.declared.fault.Fault.TheVariants.{Beyond}
 use Rattle.dayrows.specs.Test.{passes, fault}
 use Rattle.dayrows.specs.Whole.{broken}
 use Rattle.dayruns.specs.Run.{Fields, place_of, rows_of, field_fault, stops, run_rows, run_of, laid}
@@ -25,7 +26,7 @@ use Rattle.dayruns.proofs.Running.{length-rows}
 
 -- a row too many is refused whatever the numbers are
 fault-beyond : (source : Source) (counts : Counts) (f : ℕ → ℕ) (tag : Tag) (row : ℕ) → (form tag).most ≤ row
-    → fault source counts f tag row ≡ 3
+    → fault source counts f tag row ≡ Err Beyond
 unfolding fault passes
 fault-beyond source counts f tag row h = rw (le-ltb row (form tag).most h)
 
@@ -36,10 +37,10 @@ module _ (F : Fields) (f g : ℕ → ℕ → ℕ) (same : (many : ℕ) → many 
   field-same row = by (dec_lt row (form F.tag).most)
     where
       by : Dec (row < (form F.tag).most)
-          → cond (eqb (broken F.file F.tag (place_of F row)) 0)
+          → cond (is_ok (broken F.file F.tag (place_of F row)))
           (fault F.source F.counts (f (suc row)) F.tag row)
           (broken F.file F.tag (place_of F row))
-          ≡ cond (eqb (broken F.file F.tag (place_of F row)) 0)
+          ≡ cond (is_ok (broken F.file F.tag (place_of F row)))
           (fault F.source F.counts (g (suc row)) F.tag row)
           (broken F.file F.tag (place_of F row))
       by (yes l) = rw (same (suc row) l)

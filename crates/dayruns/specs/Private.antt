@@ -1,5 +1,5 @@
 -- What the private routines that read a field's row and look at it ask and do.
-use Rattle.std.specs.Prelude.{◌≡◌, Bool, true, false, cond, List, [], ◌∷◌, ◌++◌, ◌⊎◌, ℕ, ◌+◌, ◌*◌, ◌^◌, ◌≤◌, ◌<◌, ltb, length, drop, replicate}
+use Rattle.std.specs.Prelude.{◌≡◌, Bool, true, false, cond, List, [], ◌∷◌, ◌++◌, ◌⊎◌, ℕ, ◌+◌, ◌*◌, ◌^◌, ◌≤◌, ◌<◌, ltb, length, drop, replicate, Ok}
 use Rattle.std.proofs.lemmas.List.Edits.{sets}
 use Rattle.columns.specs.Column.{col}
 use Rattle.bigendian.specs.Row.{size, decode}
@@ -12,6 +12,7 @@ use Rattle.dayformat.specs.Layout.{count, row_start}
 use Rattle.dayrows.specs.declared.Source.{Source}
 use Rattle.dayrows.specs.declared.Source.TheVariants.{File}
 use Rattle.dayrows.specs.declared.Test.TheVariants.{Mdq}
+use Rattle.dayrows.specs.Fault.{Found}
 use Rattle.dayrows.specs.Test.{in_bounds, bounded, all_under, rises, passes}
 use Rattle.dayrows.specs.Whole.{broken, with_row}
 use Rattle.dayfields.specs.Field.{Taken}
@@ -68,7 +69,7 @@ pub record BodyRead (file : List ℕ) (tag : Tag) (from : Cursor) (lent after : 
 
 -- ---- a row: its field is whole, and it has room
 abbrev pub Ready : List ℕ → Tag → ℕ → ℕ → ℕ → Type 0
-Ready file tag at to room = (broken file tag at ≡ 0) × (to + (form tag).columns ≤ room)
+Ready file tag at to room = (broken file tag at ≡ Ok tt) × (to + (form tag).columns ≤ room)
 
 -- a row passes 3 but for its caps, 5 but for its names, and 4
 unfoldable pub orderly : Counts → (ℕ → ℕ) → Tag → ℕ → Bool
@@ -112,7 +113,7 @@ under_cap counts numbers tag named at row =
 -- ---- a field seen to be sound is taken; one that is not may still be taken, as if nothing had been done
 pub record Glanced (source : Source) (counts : Counts) (file : List ℕ) (tag : Tag) (at row : ℕ) (lent after : List ℕ) (sound : Bool)
     : Type 0 where
-  pub sure : sound ≡ true → Taken source counts file tag at row lent after 0
+  pub sure : sound ≡ true → Taken source counts file tag at row lent after (Ok tt)
   pub again :
-      {last : List ℕ} {number : ℕ} → Taken source counts file tag at row after last number
-      → Taken source counts file tag at row lent last number
+      {last : List ℕ} {found : Found} → Taken source counts file tag at row after last found
+      → Taken source counts file tag at row lent last found

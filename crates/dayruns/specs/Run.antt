@@ -1,5 +1,5 @@
 -- 01, "The day file" and "Refusal numbers": the fields of one tag, one after another.
-use Rattle.std.specs.Prelude.{◌≡◌, Bool, true, false, cond, not, List, ℕ, suc, ◌+◌, ◌*◌, ltb, eqb, length, drop}
+use Rattle.std.specs.Prelude.{◌≡◌, Bool, true, false, cond, not, List, ℕ, suc, ◌+◌, ◌*◌, ltb, eqb, length, drop, is_ok, Ok}
 use Rattle.std.proofs.lemmas.List.Edits.{sets}
 use Rattle.columns.specs.Column.{col, joined}
 use Rattle.columns.specs.First.{first}
@@ -9,6 +9,7 @@ use Rattle.dayformat.specs.declared.layout.Counts.{Counts}
 use Rattle.dayformat.specs.Format.{widths, header, field_size, form}
 use Rattle.dayformat.specs.Layout.{table_start}
 use Rattle.dayrows.specs.declared.Source.{Source}
+use Rattle.dayrows.specs.Fault.{Found}
 use Rattle.dayrows.specs.Test.{fault}
 use Rattle.dayrows.specs.Whole.{broken}
 use Rattle.dayruns.specs.declared.run.Run.{Run}
@@ -32,9 +33,9 @@ abbrev pub rows_of : Fields → ℕ → List ℕ
 rows_of F many = joined many (row_of F)
 
 -- within a field 1 (header), 2, 1 (body), 3, 5, 4; `read` has the day's numbers up to so many rows of the run
-unfoldable pub field_fault : Fields → (ℕ → ℕ → ℕ) → ℕ → ℕ
+unfoldable pub field_fault : Fields → (ℕ → ℕ → ℕ) → ℕ → Found
 field_fault F read row =
-    cond (eqb (broken F.file F.tag (place_of F row)) 0)
+    cond (is_ok (broken F.file F.tag (place_of F row)))
     (fault F.source F.counts (read (suc row)) F.tag row)
     (broken F.file F.tag (place_of F row))
 
@@ -44,26 +45,26 @@ begun file tag at = cond (ltb at (length file)) (eqb (col file at) (form tag).by
 
 -- the run ends before a field that is of another tag or faulty
 unfoldable pub stops : Fields → (ℕ → ℕ → ℕ) → ℕ → Bool
-stops F read row = cond (begun F.file F.tag (place_of F row)) (not (eqb (field_fault F read row) 0)) true
+stops F read row = cond (begun F.file F.tag (place_of F row)) (not (is_ok (field_fault F read row))) true
 
 abbrev pub run_rows : Fields → (ℕ → ℕ → ℕ) → ℕ
 run_rows F read = first (form F.tag).most (stops F read)
 
--- how many sound fields there are, where they end, and the number of the fault there, 0 for none
+-- how many sound fields there are, where they end, and the fault there
 abbrev pub run_of : Fields → (ℕ → ℕ → ℕ) → Run
 run_of F read =
     let rows = run_rows F read in
     record {
       rows = rows;
       place = place_of F rows;
-      fault = cond (begun F.file F.tag (place_of F rows)) (field_fault F read rows) 0;
+      found = cond (begun F.file F.tag (place_of F rows)) (field_fault F read rows) (Ok tt);
     }
 
 -- the rows that are read: those of the sound fields, and of the faulty one where it is whole
 abbrev pub taken_rows : Fields → (ℕ → ℕ → ℕ) → ℕ
 taken_rows F read =
     let rows = run_rows F read in
-    cond (begun F.file F.tag (place_of F rows)) (cond (eqb (broken F.file F.tag (place_of F rows)) 0) (suc rows) rows) rows
+    cond (begun F.file F.tag (place_of F rows)) (cond (is_ok (broken F.file F.tag (place_of F rows))) (suc rows) rows) rows
 
 -- ---- the statement of `run_fields`: the rows go into a lent list, which they are tested in
 abbrev pub laid : Fields → List ℕ → ℕ → List ℕ

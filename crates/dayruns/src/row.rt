@@ -25,7 +25,7 @@ fn is_ready(file: &[u8], tag: Tag, at: usize, to: usize, room: usize) -> bool
     requires { to < 2 ^ 43 }
     ensures { result ≡ true → Ready file.now tag at to room }
 {
-    if breaks(file, tag, at) != 0 {
+    if breaks(file, tag, at).is_err() {
         return false;
     }
     to + form_of(tag).columns <= room

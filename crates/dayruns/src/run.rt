@@ -8,20 +8,20 @@ use crate::glance::glance_at;
 use crate::names::{NOWHERE, Near};
 use dayfields::take_field;
 use dayformat::{Counts, HEADER, Tag, form_of, row_place};
-use dayrows::Source;
+use dayrows::{Fault, Source};
 
-// How many sound fields there are, where they end, and the number of the fault there, 0 for none.
+// How many sound fields there are, where they end, and what is found there.
 #[derive(Clone, Copy)]
 pub struct Run {
     pub rows: u32,
     pub place: usize,
-    pub fault: u8,
+    pub found: Result<(), Fault>,
 }
 
-// A field taken: the number that refuses it, 0 for none, and the rows that its names were found in.
+// A field taken: what is found of it, and the rows that its names were found in.
 #[derive(Clone, Copy)]
 struct Step {
-    fault: u8,
+    found: Result<(), Fault>,
     near: Near,
 }
 
@@ -48,18 +48,17 @@ fn take_near(
     near: Near,
 ) -> Step
     requires { Placed counts tag row to }
-    ensures { Taken source counts file.now tag at row numbers.old numbers.new result.fault }
+    ensures { Taken source counts file.now tag at row numbers.old numbers.new result.found }
 {
     let seen = glance_at(source, counts, file, tag, at, row, numbers, to, near);
-    let found = seen.near;
     if seen.sound {
         return Step {
-            fault: 0,
-            near: found,
+            found: Ok(()),
+            near: seen.near,
         };
     }
-    let fault = take_field(source, counts, file, tag, at, row, numbers);
-    Step { fault, near }
+    let found = take_field(source, counts, file, tag, at, row, numbers);
+    Step { found, near }
 }
 
 // The run of a tag's fields from a byte on. Their rows go into the numbers.
@@ -85,9 +84,9 @@ pub fn run_fields(
     let mut place = at;
     while begins(file, tag, place) {
         let step = take_near(source, counts, file, tag, place, rows, numbers, to, near);
-        let fault = step.fault;
-        if fault != 0 {
-            return Run { rows, place, fault };
+        let found = step.found;
+        if found.is_err() {
+            return Run { rows, place, found };
         }
         near = step.near;
         rows += 1;
@@ -97,6 +96,6 @@ pub fn run_fields(
     Run {
         rows,
         place,
-        fault: 0,
+        found: Ok(()),
     }
 }

@@ -3,12 +3,13 @@ ghost use Rattle.std.specs.Prelude.{◌≡◌};
 ghost use Rattle.dayruns.specs.Walk.{ended, file_check};
 
 use dayformat::{Counts, HEADER};
+use dayrows::Fault;
 use units::Refusal;
 
-// The number of the first fault, 0 for none so far; where it is, or how far is read; and the rows before.
+// What is found so far; where the first fault is, or how far is read; and the rows before.
 #[derive(Clone, Copy)]
 pub struct Walk {
-    pub fault: u8,
+    pub found: Result<(), Fault>,
     pub place: usize,
     pub counts: Counts,
 }
@@ -20,7 +21,7 @@ impl Walk {
     {
         let place = self.place;
         let counts = self.counts;
-        if self.fault != 0 {
+        if self.found.is_err() {
             return self;
         }
         if file.len() <= place {
@@ -28,13 +29,13 @@ impl Walk {
         }
         if file.len() - place < HEADER {
             return Walk {
-                fault: 1,
+                found: Err(Fault::Cut),
                 place,
                 counts,
             };
         }
         Walk {
-            fault: 2,
+            found: Err(Fault::Foreign),
             place,
             counts,
         }
@@ -44,9 +45,7 @@ impl Walk {
     pub fn check(self) -> Result<(), Refusal>
         ensures { result ≡ file_check self }
     {
-        if self.fault == 0 {
-            return Ok(());
-        }
-        Err(Refusal::at_byte(self.fault, self.place))
+        self.found
+            .map_err(|fault| Refusal::at_byte(fault.number(), self.place))
     }
 }

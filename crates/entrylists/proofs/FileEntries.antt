@@ -1,4 +1,5 @@
 -- The tag 4 bytes of an accepted file are the fields of the day's entries, so a point's part is its entries' fields there.
+use Rattle.std.specs.Prelude.{Ok}
 use mathlib.Core.Path.{◌≡◌, ap, sym, ◌∙◌}
 use mathlib.Core.List.{List, ◌++◌, append_assoc}
 use Prim.Native.Nat.{ℕ, suc, ◌+◌, ◌-◌, ◌≤◌, ◌<◌}
@@ -56,7 +57,7 @@ module _ (day : Day) (numbers : ℕ → ℕ) where
         length_fields numbers Entry day.counts,
       )
 
-module _ (file : List ℕ) (are : AreBytes file) (none : (walked file).fault ≡ 0) where
+module _ (file : List ℕ) (are : AreBytes file) (none : (walked file).found ≡ Ok tt) where
   pub entries-are : entry_bytes (walked file).counts file ≡ fields (walked file).counts (col (tables file).numbers) Entry
   entries-are =
       ap (entry_bytes (walked file).counts) (sym (file_again file none are)) ∙ written-entries (day_of file) (col (tables file).numbers)

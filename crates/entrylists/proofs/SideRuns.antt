@@ -23,7 +23,6 @@ use Rattle.dayformat.specs.DayBytes.{row_from}
 use Rattle.dayformat.proofs.Sizes.{length-row-field}
 use Rattle.dayrows.specs.declared.Source.TheVariants.{Side}
 use Rattle.dayrows.specs.declared.Test.{Test}
-use Rattle.dayrows.specs.declared.Test.TheVariants as Test
 use Rattle.dayrows.specs.Test.{in_bounds, bounded, difference, rises, some_idle, passes, fault}
 use Rattle.dayrows.specs.Private.{Sound}
 use Rattle.dayrows.proofs.Faults.{none-fault}
@@ -145,19 +144,19 @@ module _ (day : Day) (numbers : List ℕ) (S : Sound day numbers) (from many sid
     passed i l Test.Key = rw (risen i l)
     passed i l Test.Mdq = refl
 
-    read-sound : (i : ℕ) → i < many → fault (Side side) no_rows (col (rows_of F (suc i))) Entry i ≡ 0
+    read-sound : (i : ℕ) → i < many → fault (Side side) no_rows (col (rows_of F (suc i))) Entry i ≡ Ok tt
     read-sound i l = rw (rows-again F written (suc i) l) (none-fault (Side side) no_rows (read i) Entry i (passed i l))
 
-    run_is : entry_run list side ≡ record { rows = many; place = place_of F many; fault = 0 }
+    run_is : entry_run list side ≡ record { rows = many; place = place_of F many; found = Ok tt }
     run_is = run-again F written (λ many. col (rows_of F many)) read-sound
 
     pub rows_are : entry_rows list side ≡ many
     rows_are = ap (λ run. run.rows) run_is
 
-    faultless : (entry_walk list side).fault ≡ 0
+    faultless : (entry_walk list side).found ≡ Ok tt
     unfolding ended
     faultless =
-        ap (λ run. (ended list (walk_after unread Entry run)).fault) run_is
+        ap (λ run. (ended list (walk_after unread Entry run)).found) run_is
         ∙ rw (le-leb (length list) (place_of F many) (le_of_eq list-long))
 
     pub list-accepted : (point : ℕ) → side ≤ 1 → 0 < point → list_check list side point ≡ Ok tt
@@ -165,7 +164,7 @@ module _ (day : Day) (numbers : List ℕ) (S : Sound day numbers) (from many sid
     list-accepted point h l =
         accepts-both
         (accepts-both (accepts-both refl (accepts-kept 3 (le-leb side 1 h))) (accepts-kept 3 (lt-ltb 0 point l)))
-        (rw (eq-eqb (entry_walk list side).fault 0 faultless))
+        (rw faultless)
 
     pub point_is : (point i : ℕ) → i < many → is_of list side point i ≡ eqb (number i 1) point
     point_is point i l = ap (λ found. eqb found point) (number-again i 1 l (omega arith))

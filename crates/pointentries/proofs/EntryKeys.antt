@@ -1,4 +1,5 @@
 -- In a sound list of one side's entries the points never fall: keys rise, and the side is one.
+use Rattle.std.specs.Prelude.{Ok}
 use mathlib.Core.Path.{◌≡◌, refl, ap, sym, ◌∙◌}
 use mathlib.Core.Logic.{⊎_elim}
 use mathlib.Core.Bool.{true, false, cond, not}
@@ -64,7 +65,7 @@ module _ (list : List ℕ) (side : ℕ) where
 
   module _ (row : ℕ) (inside : row < rows) where
     -- no test of the row fails
-    none : fault (Source.Side side) no_rows (read (suc row)) Tag.Entry row ≡ 0
+    none : fault (Source.Side side) no_rows (read (suc row)) Tag.Entry row ≡ Ok tt
     none = (field-none F read row (rows-sound list side row inside)).1
 
     -- every row is of the side

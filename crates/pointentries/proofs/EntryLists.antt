@@ -57,14 +57,14 @@ module _ (list : List ℕ) (side : ℕ) where
         record {
           answers = e ∙ ap (λ run. ended list (walk_after unread Tag.Entry run)) same;
           holds = λ none.
-              let sound = (ended-none list (walk_after unread Tag.Entry run) (ap (λ walk. walk.fault) (sym e) ∙ none)).0 in
+              let sound = (ended-none list (walk_after unread Tag.Entry run) (ap (λ walk. walk.found) (sym e) ∙ none)).0 in
               ap col (ran_sound F lent R sound)
               ∙ among_zeros run.rows (rw same rows_few)
               ∙ ap (λ run. read run.rows) same;
         }
 
   -- ---- every row before the run's end is sound
-  pub rows-sound : (row : ℕ) → row < entry_rows list side → field_fault F read row ≡ 0
+  pub rows-sound : (row : ℕ) → row < entry_rows list side → field_fault F read row ≡ Ok tt
   rows-sound row l = goes_sound F read row (first-before (stops F read) 512 row l)
 
   -- the last sound entry ends within the list
@@ -79,7 +79,7 @@ module _ (list : List ℕ) (side : ℕ) where
 
   -- ---- an accepted list has no fault, and nothing follows its last entry
   pub record SoundList : Type 0 where
-    pub faultless : (entry_walk list side).fault ≡ 0
+    pub faultless : (entry_walk list side).found ≡ Ok tt
     pub whole : length list ≡ entry_rows list side * 12
 
   module _ (point : ℕ) where

@@ -25,7 +25,7 @@ abbrev pub entry_rows : List ℕ → ℕ → ℕ
 entry_rows list side = (entry_run list side).rows
 
 abbrev pub unread : Walk
-unread = record { fault = 0; place = 0; counts = no_rows }
+unread = record { found = Ok tt; place = 0; counts = no_rows }
 
 abbrev pub entry_walk : List ℕ → ℕ → Walk
 entry_walk list side = ended list (walk_after unread Tag.Entry (entry_run list side))

@@ -15,7 +15,7 @@ most_entry_numbers = most Tag.Entry * numbers_of (body Tag.Entry)
 -- a list walked through and tested, its rows in a lent list of zeros
 pub record EntriesWalked (list : List ℕ) (side : ℕ) (after : List ℕ) (walk : Walk) : Type 0 where
   pub answers : walk ≡ entry_walk list side
-  pub holds : walk.fault ≡ 0 → col after ≡ col (rows_of (entries list side) (entry_rows list side))
+  pub holds : walk.found ≡ Ok tt → col after ≡ col (rows_of (entries list side) (entry_rows list side))
 
 pub record ListChecked (list : List ℕ) (side point : ℕ) (after : List ℕ) (check : Check) : Type 0 where
   pub answers : check ≡ list_check list side point

@@ -24,7 +24,7 @@ fn walk_entries(list: &[u8], side: usize, numbers: &mut [usize]) -> Walk
 {
     let run = run_fields(Source::Side(side), NO_ROWS, list, Tag::Entry, 0, numbers);
     let walk = Walk {
-        fault: run.fault,
+        found: run.found,
         place: run.place,
         counts: NO_ROWS.with(Tag::Entry, run.rows),
     };

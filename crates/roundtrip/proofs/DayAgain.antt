@@ -1,10 +1,10 @@
 -- An accepted day written and read gives the same day.
+use Rattle.std.specs.Prelude.{Ok}
 use mathlib.Core.Path.{◌≡◌, refl, ap, sym, ◌∙◌}
 use mathlib.Core.List.{List, ◌++◌}
 use Prim.Native.Nat.{ℕ, suc, ◌≤◌, ◌<◌}
 use native.Mathlib.Nat.{mul-le-mul_right}
 use native.Mathlib.Omega.{arith}
-use borrow.Author.Tests.{eq-eqb}
 use lib.ListN.{length, length-append}
 use Rattle.columns.specs.Column.{col, joined}
 use Rattle.columns.proofs.Lists.{length-listed}
@@ -19,9 +19,10 @@ use Rattle.dayformat.proofs.Every.{place_at, table_at}
 use Rattle.dayformat.proofs.Layouts.{agree_with, none_with, starts-after, grown, table-inside}
 use Rattle.dayformat.proofs.Sizes.{length_fields}
 use Rattle.dayrows.specs.declared.Source.TheVariants.{File}
-use Rattle.dayrows.specs.Test.{passes, fault}
+use Rattle.dayrows.specs.Test.{fault}
 use Rattle.dayrows.specs.Private.{Sound}
 use Rattle.dayrows.proofs.Faults.{none-fault}
+use Rattle.dayrows.proofs.Finding.{none-ok}
 use Rattle.dayrows.proofs.Same.{start-same, passes_same}
 use Rattle.dayrows.proofs.SoundRows.{row_fits}
 use Rattle.dayruns.specs.Run.{Fields, place_of, rows_of}
@@ -38,7 +39,7 @@ module _ (day : Day) (numbers : List ℕ) (S : Sound day numbers) where
   module _ (file : List ℕ) where
     -- what is read back after the runs of so many tags
     pub record Back (many : ℕ) (T : Tables) (ahead : List ℕ) : Type 0 where
-      pub sound : T.walk.fault ≡ 0
+      pub sound : T.walk.found ≡ Ok tt
       pub here : T.walk.place ≡ length ahead
       pub agree : Agree many T.walk.counts day.counts
       pub none : NoneFrom many T.walk.counts
@@ -85,7 +86,7 @@ module _ (day : Day) (numbers : List ℕ) (S : Sound day numbers) where
           leads-more T.numbers numbers (table_start day.counts tag) (form tag).columns (row tag) B.leads same_start (λ i. refl) m
           (omega (arith, S.long, table-inside day.counts tag (table_at n inside), mul-le-mul_right (form tag).columns l))
 
-      read-sound : (i : ℕ) → i < many → fault File T.walk.counts (col (T.numbers ++ rows_of F (suc i))) tag i ≡ 0
+      read-sound : (i : ℕ) → i < many → fault File T.walk.counts (col (T.numbers ++ rows_of F (suc i))) tag i ≡ Ok tt
       read-sound i l =
           rw (rows-again F written (suc i) l)
           (none-fault File T.walk.counts (col (T.numbers ++ joined (suc i) (row tag))) tag i
@@ -103,22 +104,22 @@ module _ (day : Day) (numbers : List ℕ) (S : Sound day numbers) where
           ))))
           ∙ S.passes tag (table_at n inside) test i l))
 
-      run_is : table_run file tag T ≡ record { rows = many; place = place_of F many; fault = 0 }
+      run_is : table_run file tag T ≡ record { rows = many; place = place_of F many; found = Ok tt }
       run_is = run-again F written (λ many. col (T.numbers ++ rows_of F many)) read-sound
 
       tabled_is : tabled file tag T
           ≡ record {
-            walk = walk_after T.walk tag (record { rows = many; place = place_of F many; fault = 0 });
+            walk = walk_after T.walk tag (record { rows = many; place = place_of F many; found = Ok tt });
             numbers = T.numbers ++ joined many (row tag);
           }
       unfolding tabled
       tabled_is =
-          rw (eq-eqb T.walk.fault 0 B.sound)
+          rw (none-ok B.sound)
           (ap (λ run. record { walk = walk_after T.walk tag run; numbers = T.numbers ++ rows_of F run.rows }) run_is
           ∙ ap
           (λ rows.
           record {
-            walk = walk_after T.walk tag (record { rows = many; place = place_of F many; fault = 0 });
+            walk = walk_after T.walk tag (record { rows = many; place = place_of F many; found = Ok tt });
             numbers = T.numbers ++ rows;
           })
           (rows-again F written many (omega arith)))

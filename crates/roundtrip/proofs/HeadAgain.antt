@@ -1,12 +1,12 @@
 -- The head's field as it is written, read back.
+use Rattle.std.specs.Prelude.{Ok, is_ok}
 use mathlib.Core.Path.{◌≡◌, refl, ap, sym, ◌∙◌}
 use mathlib.Core.Bool.{true, cond, not}
 use mathlib.Core.List.{List, [], ◌++◌}
 use Prim.Native.Nat.{ℕ, zero, suc, ◌+◌, ◌^◌, ◌≤◌, ◌<◌}
 use native.Mathlib.Nat.{le_of_eq}
 use native.Mathlib.Omega.{arith}
-use borrow.Author.Tests.{le-leb, eq-eqb}
-use lib.Dec.{eqb}
+use borrow.Author.Tests.{le-leb}
 use lib.ListN.{length, drop}
 use Rattle.columns.specs.Column.{col, listed, joined}
 use Rattle.columns.specs.Sum.{sum}
@@ -22,7 +22,7 @@ use Rattle.dayformat.specs.DayBytes.{head_row}
 use Rattle.dayrows.specs.declared.Source.TheVariants.{File}
 use Rattle.dayrows.specs.declared.Test.{Test}
 use Rattle.dayrows.specs.declared.Test.TheVariants.{Bounds, Key, Mdq}
-use Rattle.dayrows.specs.Test.{in_bounds, bounded, rises, names_listed, some_idle, passes, fault}
+use Rattle.dayrows.specs.Test.{in_bounds, bounded, rises, names_listed, some_idle, passes}
 use Rattle.dayrows.specs.Whole.{broken}
 use Rattle.dayrows.proofs.Capping.{uncapped}
 use Rattle.dayrows.proofs.Faults.{none-fault}
@@ -96,16 +96,16 @@ module _ (head : Head) (B : Bounded head) where
     head-passes Key = refl
     head-passes Mdq = refl
 
-    pub head-sound : head_fault file ≡ 0
+    pub head-sound : head_fault file ≡ Ok tt
     unfolding field_fault
     head-sound =
-        let whole : broken file Tag.Head (place_of (head_fields file) 0) ≡ 0 =
+        let whole : broken file Tag.Head (place_of (head_fields file) 0) ≡ Ok tt =
         ap (broken file Tag.Head) first ∙ whole-none file Tag.Head 0 (whole-there Tag.Head (head_row head) head-fits [] rest)
-        in rw (eq-eqb _ _ whole, rows_back) (none-fault File no_rows (col (head_row head)) Tag.Head 0 head-passes)
+        in rw (whole, rows_back) (none-fault File no_rows (col (head_row head)) Tag.Head 0 head-passes)
 
-    pub headed-again : headed file ≡ record { fault = 0; place = field_size Tag.Head; counts = no_rows }
+    pub headed-again : headed file ≡ record { found = Ok tt; place = field_size Tag.Head; counts = no_rows }
     unfolding headed
-    headed-again = ap (λ n. record { fault = n; place = cond (eqb n 0) (field_size Tag.Head) 0; counts = no_rows }) head-sound
+    headed-again = ap (λ n. record { found = n; place = cond (is_ok n) (field_size Tag.Head) 0; counts = no_rows }) head-sound
 
     -- and the head is the same
     same_row : head_row (head_of file) ≡ head_row head

@@ -4,7 +4,7 @@ use mathlib.Core.Path.{◌≡◌, refl, ap, sym, ◌∙◌}
 use mathlib.Core.List.{List}
 use Prim.Native.Nat.{ℕ, ◌≤◌}
 use native.Mathlib.Omega.{arith}
-use borrow.Author.Tests.{le-leb, eq-eqb, leb-true}
+use borrow.Author.Tests.{le-leb, leb-true}
 use lib.Dec.{leb}
 use lib.ListN.{length, take}
 use Rattle.columns.specs.Column.{col}
@@ -46,7 +46,7 @@ reads_accepted : (file : List ℕ) (day : Day) (numbers : List ℕ) (room : ℕ)
 unfolding reading_check
 reads_accepted file day numbers room R l =
     let same : (walked file).counts ≡ day.counts = ap (λ day. day.counts) R.day_is in
-    accepts-both (rw (eq-eqb (walked file).fault 0 R.accepted)) (accepts-kept 7 (rw same (le-leb (numbers_in day.counts) room l)))
+    accepts-both (rw R.accepted) (accepts-kept 7 (rw same (le-leb (numbers_in day.counts) room l)))
 
 pub day_again : DayAgain
 unfolding written_check

@@ -1,9 +1,10 @@
 -- Both round trips; so the writer accepts exactly the days that the reader can answer.
+use Rattle.std.specs.Prelude.{Ok}
 use mathlib.Core.Path.{◌≡◌, refl, ap, sym, ◌∙◌}
 use mathlib.Core.List.{List}
 use Prim.Native.Nat.{ℕ, ◌^◌, ◌≤◌, ◌<◌}
 use native.Mathlib.Omega.{arith}
-use borrow.Author.Tests.{eq-eqb, le-leb}
+use borrow.Author.Tests.{le-leb}
 use lib.ListN.{length}
 use lib.Seq.{ext_get_or}
 use Rattle.columns.specs.Column.{col}
@@ -13,8 +14,8 @@ use Rattle.dayformat.specs.Layout.{numbers_in}
 use Rattle.dayformat.specs.DayBytes.{file_of}
 use Rattle.dayformat.proofs.Layouts.{agree-all}
 use Rattle.dayrows.specs.Private.{Sound}
-use Rattle.daywriter.specs.Acceptance.{sound}
 use Rattle.daywriter.proofs.Accepting.{accepting, accepts}
+use Rattle.dayrows.proofs.Finding.{none-ok}
 use Rattle.dayruns.specs.declared.walk.Walk.{Walk}
 use Rattle.dayruns.specs.Walk.{ended}
 use Rattle.dayfile.specs.File.{tables, walked}
@@ -25,9 +26,9 @@ use Rattle.roundtrip.proofs.DayAgain.{Back}
 use Rattle.roundtrip.proofs.FrontAgain.{head_and, same_head, back}
 
 -- where nothing is left the walk ends as it stands
-ended-all : (file : List ℕ) (walk : Walk) → walk.fault ≡ 0 → length file ≤ walk.place → ended file walk ≡ walk
+ended-all : (file : List ℕ) (walk : Walk) → walk.found ≡ Ok tt → length file ≤ walk.place → ended file walk ≡ walk
 unfolding ended
-ended-all file walk none l = rw (eq-eqb walk.fault 0 none, le-leb (length file) walk.place l)
+ended-all file walk none l = rw (none-ok none, le-leb (length file) walk.place l)
 
 module _ (day : Day) (numbers : List ℕ) (S : Sound day numbers) (u32 : day.head.day < 2 ^ 32) where
   abbrev file : List ℕ
@@ -52,7 +53,7 @@ module _ (day : Day) (numbers : List ℕ) (S : Sound day numbers) (u32 : day.hea
   reads : Reads file day numbers
   reads =
       record {
-        accepted = ap (λ walk. walk.fault) ends ∙ whole.sound;
+        accepted = ap (λ walk. walk.found) ends ∙ whole.sound;
         day_is =
             ap (λ head. record { head = head; counts = (walked file).counts }) (same_head day numbers S u32 many_tables)
             ∙ ap (λ counts. record { head = day.head; counts = counts }) same-counts;

@@ -1,4 +1,5 @@
 -- Accepted files with the same bytes up to a table have the same head, and the same counts and numbers up to that table.
+use Rattle.std.specs.Prelude.{Ok}
 use mathlib.Core.Path.{◌≡◌, ap, sym, ◌∙◌}
 use mathlib.Core.List.{List, ◌++◌, append_assoc}
 use Prim.Native.Nat.{ℕ, ◌+◌, ◌-◌, ◌^◌, ◌≤◌, ◌<◌}
@@ -30,7 +31,7 @@ pub record SameFront (many : ℕ) (file other : List ℕ) : Type 0 where
 
 module _ (many : ℕ) (few : many ≤ many_tables) where
   -- ---- the bytes of a file up to a table are read as those of the file are
-  module _ (file : List ℕ) (are : AreBytes file) (accepted : (walked file).fault ≡ 0) where
+  module _ (file : List ℕ) (are : AreBytes file) (accepted : (walked file).found ≡ Ok tt) where
     abbrev numbers : List ℕ
     numbers = (tables file).numbers
 
@@ -70,7 +71,7 @@ module _ (many : ℕ) (few : many ≤ many_tables) where
         ∙ ends (tables_to front many).walk.counts many few front_back.none
         ∙ before_same many (tables_to front many).walk.counts (walked file).counts front_back.agree
 
-  pub same-front : (file other : List ℕ) → AreBytes file → AreBytes other → (walked file).fault ≡ 0 → (walked other).fault ≡ 0
+  pub same-front : (file other : List ℕ) → AreBytes file → AreBytes other → (walked file).found ≡ Ok tt → (walked other).found ≡ Ok tt
       → take (bytes_before (walked file).counts many) file ≡ take (bytes_before (walked other).counts many) other
       → SameFront many file other
   same-front file other are other-are accepted other-accepted same =

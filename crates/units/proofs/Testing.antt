@@ -7,7 +7,7 @@ use native.Mathlib.Nat.{le_antisymm, le_of_suc-le-suc, eq-or-lt_of_le, le_step, 
 use native.Mathlib.Numerals.{add-one}
 use native.Mathlib.Omega.{arith}
 use Rattle.units.specs.declared.refusal.Refusal.{Refusal}
-use Rattle.units.specs.Refusals.{◌then◌, Check, first_refusal}
+use Rattle.units.specs.Refusals.{Check, first_refusal}
 use Rattle.units.specs.Each.{each}
 use Rattle.units.proofs.Checks.{both-accepted, accepts-both}
 

@@ -3,6 +3,7 @@ ghost use Rattle.std.specs.Prelude.{◌≤◌};
 
 use cases::{bytes, past, past_bytes, word, word_within};
 use dayformat::{Counts, Day, Head};
+use dayrows::Tables;
 use units::Gigajoules;
 
 // What a lent list holds before the call: no answer has it.
@@ -14,11 +15,11 @@ pub const MOST_ROWS: usize = 65;
 // No day has more numbers: one more than a full one.
 const MOST_NUMBERS: usize = dayformat::MOST_NUMBERS + 1;
 
-// What a routine is given: a day, its numbers, and what else the case has.
+// What a routine is given: a day, its tables, and what else the case has.
 #[derive(Clone, Copy)]
 pub struct Given<'a> {
     pub day: Day,
-    pub numbers: &'a [usize],
+    pub tables: Tables<'a>,
     pub rest: &'a [u8],
 }
 

@@ -10,6 +10,7 @@ mod texts;
 
 use cases::{Answers, answer_cases, past, word};
 use day::{Given, day_of, length_of, numbers_of, past_day};
+use dayrows::Tables;
 use std::io::{Result, Write};
 
 // No case has more bytes: what a large buffer holds.
@@ -36,9 +37,13 @@ fn main(rt: HostRuntime) -> Result<()> {
 
 fn answer_day<W: Write>(out: &mut W, routine: u32, case: &[u8]) -> Result<()> {
     let numbers = numbers_of(case);
+    let day = day_of(case);
     let given = Given {
-        day: day_of(case),
-        numbers: &numbers[..length_of(case)],
+        day,
+        tables: Tables {
+            counts: day.counts,
+            numbers: &numbers[..length_of(case)],
+        },
         rest: past_day(case),
     };
     match routine {

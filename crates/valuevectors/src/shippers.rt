@@ -19,7 +19,7 @@ fn column_of(place: u32) -> ShipperColumn {
 pub fn answer_check<W: Write>(out: &mut W, given: Given) -> Result<()> {
     let column = column_of(word(given.rest, 0));
     let room = wide(given.rest, 1) as usize;
-    let check = dayvalues::check_column(given.day.counts, given.numbers, column, room);
+    let check = dayvalues::check_column(given.tables, column, room);
     put_answer(out, b"check_column", check.map(|()| []))
 }
 
@@ -28,8 +28,7 @@ pub fn answer_column<W: Write>(out: &mut W, given: Given) -> Result<()> {
     let column = column_of(word(given.rest, 0));
     let room = word_within(given.rest, 1, MOST_ROWS);
     let listed = dayvalues::shipper_column(
-        given.day.counts,
-        given.numbers,
+        given.tables,
         column,
         &mut lent[..room],
     );
@@ -46,7 +45,7 @@ pub fn answer_shares<W: Write>(out: &mut W, given: Given) -> Result<()> {
     let lower_tier_room = word_within(given.rest, 2, MOST_ROWS);
     let shared = numbershares::share_numbers(
         given.day,
-        given.numbers,
+        given.tables.numbers,
         &mut firm[..firm_room],
         &mut auction[..auction_room],
         &mut lower_tier[..lower_tier_room],

@@ -4,7 +4,7 @@ ghost use Rattle.std.specs.Prelude.{◌≤◌};
 use crate::lists::{past_list, wide_list};
 use cases::{past, put_answer, wide, word};
 use metered::Side;
-use overruns::Overruns;
+use overruns::{ExcusedHours, Overruns, ShipperDay};
 use std::io::{Result, Write};
 use units::{Gigajoules, Megajoules};
 
@@ -69,17 +69,20 @@ pub fn answer_daily<W: Write>(out: &mut W, given: &[u8]) -> Result<()> {
 }
 
 pub fn answer_overruns<W: Write>(out: &mut W, given: &[u8]) -> Result<()> {
-    let day = overruns::overruns_of_day(
-        Gigajoules(word(given, 0)),
-        Gigajoules(word(given, 1)),
-        hours_of(past(given, 10)),
-        sides_of(past(given, 32)),
-        side_of(past(given, 2)),
-        side_of(past(given, 6)),
-        hours_of(past(given, 128)),
-        sides_of(past(given, 150)),
-    );
-    put_answer(out, b"overruns_of_day", day.map(figures_of))
+    let day = ShipperDay {
+        p: Gigajoules(word(given, 0)),
+        m: Gigajoules(word(given, 1)),
+        yesterday: hours_of(past(given, 10)),
+        hours: sides_of(past(given, 32)),
+        receipt: side_of(past(given, 2)),
+        delivery: side_of(past(given, 6)),
+    };
+    let excused = ExcusedHours {
+        yesterday: hours_of(past(given, 128)),
+        hours: sides_of(past(given, 150)),
+    };
+    let over = overruns::overruns_of_day(&day, &excused);
+    put_answer(out, b"overruns_of_day", over.map(figures_of))
 }
 
 fn figures_of(over: Overruns) -> [u64; 5] {

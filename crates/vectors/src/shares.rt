@@ -2,6 +2,7 @@
 use crate::lists::{LENT, MOST_ROWS, list, past_list};
 use cases::{past, put_answer, put_list, word, word_within};
 use dayshares::Shares;
+use daytable::DayTable;
 use std::io::{self, Write};
 use units::{Gigajoules, Refusal};
 
@@ -54,13 +55,15 @@ fn share_day(
     let auction_schedule = past_list(firm_schedule);
     let lower_tier_schedule = past_list(auction_schedule);
     dayshares::share_day(
-        Gigajoules(word(given, 0)),
-        Gigajoules(word(given, 1)),
-        list(firm_mdq).rows(),
-        list(auction_mdq).rows(),
-        list(firm_schedule).rows(),
-        list(auction_schedule).rows(),
-        list(lower_tier_schedule).rows(),
+        &DayTable {
+            free_flow: Gigajoules(word(given, 0)),
+            compressor: Gigajoules(word(given, 1)),
+            firm_mdq: list(firm_mdq).rows(),
+            auction_mdq: list(auction_mdq).rows(),
+            firm_schedule: list(firm_schedule).rows(),
+            auction_schedule: list(auction_schedule).rows(),
+            lower_tier_schedule: list(lower_tier_schedule).rows(),
+        },
         firm,
         auction,
         lower_tier,

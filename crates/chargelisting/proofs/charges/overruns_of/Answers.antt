@@ -18,10 +18,10 @@ returns c =
     rw (
       c.excused_yesterday.ensures,
       c.excused_hours.ensures,
-      c.excused_row-excused.ensures,
+      c.excused_row-excused_row.ensures,
       c.figures_of-figures.ensures,
-      c.meter_yesterday-yesterday.ensures,
-      c.meter_hours-hours.ensures,
+      c.meter_yesterday.ensures,
+      c.meter_hours.ensures,
     ) at
     c.overruns_of_day.ensures
     in

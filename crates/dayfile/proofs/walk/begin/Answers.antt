@@ -2,8 +2,8 @@
 use Rattle.dayfile.proofs.Steps.{headed-faulty, headed-sound}
 use Rattle.dayfile.proofs.walk.begin.Goals as goal
 
-pub returns-then-fault-ne0 : goal.returns-then-fault-ne0
-returns-then-fault-ne0 c = headed-faulty _ c.take_field-fault.ensures c.if-fault-ne0.true
+pub returns-then-is_err : goal.returns-then-is_err
+returns-then-is_err c = headed-faulty _ c.take_field-found.ensures c.if-is_err.ensures.negation
 
 pub returns : goal.returns
-returns c = headed-sound _ c.take_field-fault.ensures c.if-fault-ne0.false
+returns c = headed-sound _ c.take_field-found.ensures c.if-is_err.ensures.negation

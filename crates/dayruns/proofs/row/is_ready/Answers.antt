@@ -4,11 +4,12 @@ use mathlib.Core.Bool.{true≢false}
 use Prim.Native.Nat.{◌+◌}
 use native.Mathlib.Omega.{arith}
 use borrow.Author.Tests.{leb-true}
+use Rattle.dayrows.proofs.Finding.{ok-none}
 use Rattle.dayformat.proofs.Small.{small}
 use Rattle.dayruns.proofs.row.is_ready.Goals as goal
 
-pub returns-then-breaks-ne0 : goal.returns-then-breaks-ne0
-returns-then-breaks-ne0 c = λ yes. absurd (true≢false (sym yes))
+pub returns-then-is_err : goal.returns-then-is_err
+returns-then-is_err c = λ yes. absurd (true≢false (sym yes))
 
 pub overflow_add-result : goal.overflow_add-result
 overflow_add-result c =
@@ -18,6 +19,6 @@ pub returns : goal.returns
 returns c =
     λ yes.
     let fits = leb-true (c.args.to + c.form_of.result.columns) c.args.room yes in (
-      sym c.breaks.ensures ∙ c.if-breaks-ne0.false,
+      sym c.breaks.ensures ∙ ok-none _ c.if-is_err.ensures.negation,
       omega (arith, fits, ap (λ c. c.columns) c.form_of.ensures),
     )

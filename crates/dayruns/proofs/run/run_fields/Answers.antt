@@ -6,6 +6,7 @@ use Rattle.dayformat.specs.declared.layout.Counts.{Counts}
 use Rattle.dayformat.specs.Format.{form}
 use Rattle.dayformat.specs.Layout.{row_start}
 use Rattle.dayformat.proofs.Small.{small, rows-small}
+use Rattle.dayrows.proofs.Finding.{ok-none}
 use Rattle.dayfields.proofs.Taking.{taken-long}
 use Rattle.dayruns.proofs.Running.{begun-inside, going_none, going_long, run-over, run-faulty, going_few, going_there, going_next}
 use Rattle.dayruns.proofs.run.run_fields.Goals as goal
@@ -27,21 +28,21 @@ take_near-step-requires c =
     let l = near _ _ c.loop-source.invariant.0.searched.inside c.loop-source.invariant.1 c.row_place-to.ensures in
     (c.loop-source.invariant.1, omega (arith, l))
 
-pub shape_of-numbers-then-fault-ne0 : goal.shape_of-numbers-then-fault-ne0
-shape_of-numbers-then-fault-ne0 c =
+pub shape_of-numbers-then-is_err : goal.shape_of-numbers-then-is_err
+shape_of-numbers-then-is_err c =
     taken-long _ _ _ _ _ _ _ c.take_near-step.ensures ∙ going_long _ _ c.loop-source.invariant.0
 
-pub returns-then-fault-ne0 : goal.returns-then-fault-ne0
-returns-then-fault-ne0 c =
+pub returns-then-is_err : goal.returns-then-is_err
+returns-then-is_err c =
     run-faulty _ _ c.loop-source.invariant.0 (sym c.begins.ensures ∙ c.loop-source-test.true)
-    c.take_near-step.ensures c.if-fault-ne0.true
+    c.take_near-step.ensures c.if-is_err.ensures.negation
 
 pub overflow_add-rows : goal.overflow_add-rows
 overflow_add-rows c =
     omega (
       arith,
       going_few _ _ c.loop-source.invariant.0 (sym c.begins.ensures ∙ c.loop-source-test.true)
-          c.take_near-step.ensures c.if-fault-ne0.false,
+          c.take_near-step.ensures (ok-none _ c.if-is_err.ensures.negation),
       (small c.args.tag).most,
     )
 
@@ -50,7 +51,7 @@ overflow_add-place c =
     omega (
       arith,
       going_there _ _ c.loop-source.invariant.0 (sym c.begins.ensures ∙ c.loop-source-test.true)
-          c.take_near-step.ensures c.if-fault-ne0.false,
+          c.take_near-step.ensures (ok-none _ c.if-is_err.ensures.negation),
       ap (λ form. form.size) c.form_of-form.ensures,
       c.well_formed.1.1.0.0,
     )
@@ -71,7 +72,7 @@ pub loop-source-preserved : goal.loop-source-preserved
 loop-source-preserved c = (
   rw c.form_of-form.ensures
       (going_next _ _ c.loop-source.invariant.0 (sym c.begins.ensures ∙ c.loop-source-test.true)
-      c.take_near-step.ensures c.if-fault-ne0.false),
+      c.take_near-step.ensures (ok-none _ c.if-is_err.ensures.negation)),
   omega (arith, c.loop-source.invariant.1, ap (λ c. c.columns) c.form_of-form.ensures),
 )
 

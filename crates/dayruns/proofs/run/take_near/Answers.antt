@@ -7,4 +7,4 @@ returns-then-seen c = c.glance_at-seen.ensures.sure c.if-seen.true
 
 pub returns : goal.returns
 returns c =
-    c.glance_at-seen.ensures.again c.take_field-fault.ensures
+    c.glance_at-seen.ensures.again c.take_field-found.ensures

@@ -1,0 +1,8 @@
+-- The head line, and the meters' lines where it ends.
+use Rattle.text.proofs.Laying.{laid_both}
+use Rattle.lines.proofs.Lining.{laid_from}
+use Rattle.chargelisting.proofs.chargestext.ChargesText.put.Goals as goal
+
+pub returns : goal.returns
+returns c =
+    laid_from _ c.min-from.ensures (laid_both c.put_head-size.ensures.0 c.put_meters.ensures.0)

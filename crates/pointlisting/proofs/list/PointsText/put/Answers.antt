@@ -1,0 +1,8 @@
+-- The day's line, and the points' lines where it ends.
+use Rattle.text.proofs.Laying.{laid_both}
+use Rattle.lines.proofs.Lining.{laid_from}
+use Rattle.pointlisting.proofs.list.PointsText.put.Goals as goal
+
+pub returns : goal.returns
+returns c =
+    laid_from _ c.min-from.ensures (laid_both c.put_day-size.ensures.0 c.put_each.ensures.0)
