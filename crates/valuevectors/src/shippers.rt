@@ -27,11 +27,7 @@ pub fn answer_column<W: Write>(out: &mut W, given: Given) -> Result<()> {
     let mut lent = [LENT; MOST_ROWS];
     let column = column_of(word(given.rest, 0));
     let room = word_within(given.rest, 1, MOST_ROWS);
-    let listed = dayvalues::shipper_column(
-        given.tables,
-        column,
-        &mut lent[..room],
-    );
+    let listed = dayvalues::shipper_column(given.tables, column, &mut lent[..room]);
     put_answer(out, b"shipper_column", listed.map(|rows| [rows as u64]))?;
     put_list(out, &lent[..room])
 }
