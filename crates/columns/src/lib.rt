@@ -1,17 +1,7 @@
-// Columns over the rows of a table, and lists that are lent: mathematics, in specs/ and proofs/, and two routines that all others need.
+// Columns over the rows of a table, and lists that are lent: mathematics, in specs/ and proofs/, and the routine that lays a byte.
 #![tactic(auto)]
 
-ghost use Rattle.std.specs.Prelude.{◌≡◌, ◌+◌, min, set};
-
-// The lesser of two counts.
-pub fn lesser(one: usize, other: usize) -> usize
-    ensures { result ≡ min one other }
-{
-    if one < other {
-        return one;
-    }
-    other
-}
+ghost use Rattle.std.specs.Prelude.{◌≡◌, ◌+◌, set};
 
 // Lays a byte so many places past `at`. A sum that does not fit is past every block too.
 pub fn put_byte(byte: u8, block: &mut [u8], at: usize, place: usize)

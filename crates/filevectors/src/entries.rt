@@ -1,45 +1,37 @@
 // The entries of a point, and the check beside them.
-use crate::answers::{put_bytes, put_figures, put_refusal};
-use crate::case::{bytes, past, past_bytes, word};
-use columns::lesser;
+use cases::{bytes, past, past_bytes, put_answer, put_block, word_within};
 use std::io::{Result, Write};
-use units::Refusal;
 
-fn side_of(case: &[u8]) -> u8 {
-    lesser(word(case, 0) as usize, 255) as u8
+fn side_of(given: &[u8]) -> u8 {
+    word_within(given, 0, 255) as u8
 }
 
-fn point_of(case: &[u8]) -> u16 {
-    lesser(word(case, 1) as usize, 65_535) as u16
+fn point_of(given: &[u8]) -> u16 {
+    word_within(given, 1, 65_535) as u16
 }
 
-pub fn answer_check<W: Write>(out: &mut W, case: &[u8]) -> Result<()> {
-    let receipt = past(case, 2);
+pub fn answer_check<W: Write>(out: &mut W, given: &[u8]) -> Result<()> {
+    let receipt = past(given, 2);
     let delivery = past_bytes(receipt);
     let check = pointentries::check_entries(
         bytes(receipt),
         bytes(delivery),
-        side_of(case),
-        point_of(case),
+        side_of(given),
+        point_of(given),
     );
-    out.write_all(b"check_entries")?;
-    match check {
-        Err(refusal) => put_refusal(out, refusal),
-        Ok(()) => put_figures(out, &[0, 0]),
-    }
+    put_answer(out, b"check_entries", check.map(|()| []))
 }
 
 // How many bytes the part has, then the bytes.
-pub fn answer_part<W: Write>(out: &mut W, case: &[u8]) -> Result<()> {
-    let receipt = past(case, 2);
+pub fn answer_part<W: Write>(out: &mut W, given: &[u8]) -> Result<()> {
+    let receipt = past(given, 2);
     let delivery = past_bytes(receipt);
     let part = pointentries::entries_of_point(
         bytes(receipt),
         bytes(delivery),
-        side_of(case),
-        point_of(case),
+        side_of(given),
+        point_of(given),
     );
-    out.write_all(b"entries_of_point")?;
-    put_figures(out, &[0, 0, part.len() as u64])?;
-    put_bytes(out, part)
+    put_answer(out, b"entries_of_point", Ok([part.len() as u64]))?;
+    put_block(out, part)
 }

@@ -1,60 +1,49 @@
 // Texts: the line of a refusal, and the listings.
-use crate::answers::{put_figures, put_refusal};
-use crate::case::{bytes, past, wide, word};
-use crate::lent::{LENT_BYTE, MOST_BYTES, put_block};
-use columns::lesser;
+use crate::lent::{LENT_BYTE, MOST_BYTES, put_written_bytes};
+use cases::{bytes, past, put_answer, wide, word, word_within};
 use std::io::{self, Write};
 use units::{Rate, Refusal};
 
 // How many bytes the text has, and the lent block.
-fn put_text<W: Write>(
+pub fn put_text<W: Write>(
     out: &mut W,
+    routine: &[u8],
     listing: Result<usize, Refusal>,
-    lent: &[u8; MOST_BYTES],
-    room: usize,
+    lent: &[u8],
 ) -> io::Result<()> {
-    match listing {
-        Err(refusal) => put_refusal(out, refusal)?,
-        Ok(size) => {
-            put_figures(out, &[0, 0, size as u64])?;
-        }
-    }
-    put_block(out, lent, room)
+    put_answer(out, routine, listing.map(|size| [size as u64]))?;
+    put_written_bytes(out, lent)
 }
 
-pub fn answer_refusal<W: Write>(out: &mut W, case: &[u8]) -> io::Result<()> {
+pub fn answer_refusal<W: Write>(out: &mut W, given: &[u8]) -> io::Result<()> {
     let mut lent = [LENT_BYTE; MOST_BYTES];
-    let room = lesser(word(case, 3) as usize, MOST_BYTES);
+    let room = word_within(given, 3, MOST_BYTES);
     let refusal = Refusal {
-        number: lesser(word(case, 0) as usize, 255) as u8,
-        place: wide(word(case, 1), word(case, 2)),
+        number: word_within(given, 0, 255) as u8,
+        place: wide(given, 1) as usize,
     };
-    let line = lines::refusal_line(refusal, &mut lent[0..room]);
-    out.write_all(b"refusal_line")?;
-    put_text(out, line, &lent, room)
+    let line = lines::refusal_line(refusal, &mut lent[..room]);
+    put_text(out, b"refusal_line", line, &lent[..room])
 }
 
-pub fn answer_shares<W: Write>(out: &mut W, case: &[u8]) -> io::Result<()> {
+pub fn answer_shares<W: Write>(out: &mut W, given: &[u8]) -> io::Result<()> {
     let mut lent = [LENT_BYTE; MOST_BYTES];
-    let room = lesser(word(case, 0) as usize, MOST_BYTES);
-    let listing = sharelisting::list_shares(bytes(past(case, 1)), &mut lent[0..room]);
-    out.write_all(b"list_shares")?;
-    put_text(out, listing, &lent, room)
+    let room = word_within(given, 0, MOST_BYTES);
+    let listing = sharelisting::list_shares(bytes(past(given, 1)), &mut lent[..room]);
+    put_text(out, b"list_shares", listing, &lent[..room])
 }
 
-pub fn answer_charges<W: Write>(out: &mut W, case: &[u8]) -> io::Result<()> {
+pub fn answer_charges<W: Write>(out: &mut W, given: &[u8]) -> io::Result<()> {
     let mut lent = [LENT_BYTE; MOST_BYTES];
-    let room = lesser(word(case, 1) as usize, MOST_BYTES);
-    let rate = Rate(word(case, 0));
-    let listing = chargelisting::list_charges(bytes(past(case, 2)), rate, &mut lent[0..room]);
-    out.write_all(b"list_charges")?;
-    put_text(out, listing, &lent, room)
+    let room = word_within(given, 1, MOST_BYTES);
+    let rate = Rate(word(given, 0));
+    let listing = chargelisting::list_charges(bytes(past(given, 2)), rate, &mut lent[..room]);
+    put_text(out, b"list_charges", listing, &lent[..room])
 }
 
-pub fn answer_points<W: Write>(out: &mut W, case: &[u8]) -> io::Result<()> {
+pub fn answer_points<W: Write>(out: &mut W, given: &[u8]) -> io::Result<()> {
     let mut lent = [LENT_BYTE; MOST_BYTES];
-    let room = lesser(word(case, 0) as usize, MOST_BYTES);
-    let listing = pointlisting::list_points(bytes(past(case, 1)), &mut lent[0..room]);
-    out.write_all(b"list_points")?;
-    put_text(out, listing, &lent, room)
+    let room = word_within(given, 0, MOST_BYTES);
+    let listing = pointlisting::list_points(bytes(past(given, 1)), &mut lent[..room]);
+    put_text(out, b"list_points", listing, &lent[..room])
 }

@@ -3,7 +3,6 @@ ghost use Rattle.metered.specs.Hours.{bare_hours};
 ghost use Rattle.metered.specs.Excused.{both_have, first_above_metered, excused_check, excused_hours_check};
 
 use crate::hours::bare_hours;
-use columns::lesser;
 use units::{Megajoules, Refusal, clear};
 
 // Whether no hour has more excused than was metered. All are looked at, by their index, and so several at once.
@@ -39,7 +38,7 @@ fn first_above_metered(metered: &[u64], excused: &[u64]) -> usize
 pub fn examine_excused(metered: &[u64], excused: &[u64]) -> Result<(), Refusal>
     ensures { result ≡ excused_check metered.now excused.now }
 {
-    let hours = lesser(metered.len(), excused.len());
+    let hours = metered.len().min(excused.len());
     clear(hours, first_above_metered(metered, excused), 3)
 }
 

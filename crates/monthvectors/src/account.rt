@@ -1,56 +1,58 @@
 // A day and an account, as a case has them.
 ghost use Rattle.std.specs.Prelude.{◌≤◌};
 
-use crate::case::{wide, word};
-use columns::lesser;
+use cases::{past, wide, word, word_within};
 use month::{Account, AccountDay, Figures, MOST_DAYS};
 use units::{Cents, Megajoules};
 
 // The words of a day: its number, then two for each figure.
-pub const DAY: u16 = 15;
+const DAY: usize = 15;
 
-// Where an account stands, and its days after its count and how many there are.
-const ACCOUNT: u16 = 1;
+// An account's days stand after its count and how many there are.
+const DAYS: usize = 3;
 
-const DAYS: u16 = 4;
-
-pub fn day_at(case: &[u8], place: u16) -> AccountDay
-    requires { place ≤ 4096 }
-{
+// The day that stands first.
+pub fn day_of(given: &[u8]) -> AccountDay {
     AccountDay {
-        number: word(case, place as u32),
+        number: word(given, 0),
         figures: Figures {
-            hourly: Megajoules(wide(case, place + 1)),
-            twelve_hourly: Megajoules(wide(case, place + 3)),
-            daily_receipt: Megajoules(wide(case, place + 5)),
-            daily_delivery: Megajoules(wide(case, place + 7)),
-            chargeable: Megajoules(wide(case, place + 9)),
-            variation: Cents(wide(case, place + 11)),
-            request: Cents(wide(case, place + 13)),
+            hourly: Megajoules(wide(given, 1)),
+            twelve_hourly: Megajoules(wide(given, 3)),
+            daily_receipt: Megajoules(wide(given, 5)),
+            daily_delivery: Megajoules(wide(given, 7)),
+            chargeable: Megajoules(wide(given, 9)),
+            variation: Cents(wide(given, 11)),
+            request: Cents(wide(given, 13)),
         },
     }
 }
 
-// How many of its days an account has told; the others are zeros.
-fn told_in(case: &[u8]) -> usize
-    ensures { result ≤ 31 }
+// What follows so many days.
+pub fn past_days(given: &[u8], days: usize) -> &[u8]
+    requires { days ≤ 64 }
 {
-    lesser(word(case, 3) as usize, MOST_DAYS)
+    past(given, DAY * days)
 }
 
-pub fn account_in(case: &[u8]) -> Account {
+// How many of its days an account has told; the others are zeros.
+fn told_of(given: &[u8]) -> usize
+    ensures { result ≤ 31 }
+{
+    word_within(given, 2, MOST_DAYS)
+}
+
+// The account that stands first.
+pub fn account_of(given: &[u8]) -> Account {
     let mut account = Account::empty();
-    account.count = wide(case, ACCOUNT) as usize;
-    let told = told_in(case);
-    for row in 0..told {
-        account.days[row] = day_at(case, DAYS + DAY * row as u16);
+    account.count = wide(given, 0) as usize;
+    let days = past(given, DAYS);
+    for row in 0..told_of(given) {
+        account.days[row] = day_of(past_days(days, row));
     }
     account
 }
 
 // What follows it.
-pub fn past_account(case: &[u8]) -> u16
-    ensures { result ≤ 1024 }
-{
-    DAYS + DAY * told_in(case) as u16
+pub fn past_account(given: &[u8]) -> &[u8] {
+    past_days(past(given, DAYS), told_of(given))
 }

@@ -1,27 +1,24 @@
 // The account where it is.
-use crate::account::{account_in, day_at, past_account};
+use crate::account::{account_of, day_of, past_account};
 use crate::answers::{LENT_BYTE, MOST_ROOM, put_closed, put_taken, put_totalled};
-use crate::case::room_at;
+use cases::word_within;
 use month::{Account, AccountDay, Closed, Taken, Totalled};
 use std::io::{Result, Write};
 
-pub fn answer_take_in<W: Write>(out: &mut W, case: &[u8]) -> Result<()> {
-    let day = day_at(case, past_account(case));
-    out.write_all(b"record_take_in")?;
-    put_taken(out, take_in(account_in(case), day))
+pub fn answer_take_in<W: Write>(out: &mut W, given: &[u8]) -> Result<()> {
+    let taken = take_in(account_of(given), day_of(past_account(given)));
+    put_taken(out, b"record_take_in", taken)
 }
 
-pub fn answer_total_up<W: Write>(out: &mut W, case: &[u8]) -> Result<()> {
-    out.write_all(b"record_total_up")?;
-    put_totalled(out, total_up(account_in(case)))
+pub fn answer_total_up<W: Write>(out: &mut W, given: &[u8]) -> Result<()> {
+    put_totalled(out, b"record_total_up", total_up(account_of(given)))
 }
 
-pub fn answer_close<W: Write>(out: &mut W, case: &[u8]) -> Result<()> {
-    let room = room_at(case, past_account(case));
+pub fn answer_close<W: Write>(out: &mut W, given: &[u8]) -> Result<()> {
+    let room = word_within(past_account(given), 0, MOST_ROOM);
     let mut lent = [LENT_BYTE; MOST_ROOM];
-    let closed = close(account_in(case), &mut lent[0..room]);
-    out.write_all(b"record_close")?;
-    put_closed(out, closed, &lent, room)
+    let closed = close(account_of(given), &mut lent[..room]);
+    put_closed(out, b"record_close", closed, &lent[..room])
 }
 
 // Each lends an account of its own, and hands it back as it is afterwards.

@@ -1,44 +1,35 @@
 // The account by value.
-ghost use Rattle.std.specs.Prelude.{◌≤◌};
-
-use crate::account::{DAY, account_in, day_at, past_account};
+use crate::account::{account_of, day_of, past_account, past_days};
 use crate::answers::{
-    LENT_BYTE, MOST_ROOM, put_account, put_closed, put_figures, put_sums, put_taken, put_totalled,
+    LENT_BYTE, MOST_ROOM, put_account, put_closed, put_taken, put_totalled, sums_of,
 };
-use crate::case::{room_at, word};
-use columns::lesser;
+use cases::{past, put_answer, put_figures, put_list, word_within};
 use month::Account;
-use std::io::{self, Write};
-use units::Refusal;
+use std::io::{Result, Write};
 
-pub fn answer_take_in<W: Write>(out: &mut W, case: &[u8]) -> io::Result<()> {
-    let day = day_at(case, past_account(case));
-    out.write_all(b"take_in")?;
-    put_taken(out, account_in(case).take_in(day))
+pub fn answer_take_in<W: Write>(out: &mut W, given: &[u8]) -> Result<()> {
+    let day = day_of(past_account(given));
+    put_taken(out, b"take_in", account_of(given).take_in(day))
 }
 
-pub fn answer_total_up<W: Write>(out: &mut W, case: &[u8]) -> io::Result<()> {
-    out.write_all(b"total_up")?;
-    put_totalled(out, account_in(case).total_up())
+pub fn answer_total_up<W: Write>(out: &mut W, given: &[u8]) -> Result<()> {
+    put_totalled(out, b"total_up", account_of(given).total_up())
 }
 
-pub fn answer_close<W: Write>(out: &mut W, case: &[u8]) -> io::Result<()> {
-    let room = room_at(case, past_account(case));
+pub fn answer_close<W: Write>(out: &mut W, given: &[u8]) -> Result<()> {
+    let room = word_within(past_account(given), 0, MOST_ROOM);
     let mut lent = [LENT_BYTE; MOST_ROOM];
-    let closed = account_in(case).close(&mut lent[0..room]);
-    out.write_all(b"close")?;
-    put_closed(out, closed, &lent, room)
+    let closed = account_of(given).close(&mut lent[..room]);
+    put_closed(out, b"close", closed, &lent[..room])
 }
 
-// Days handed in one after another, going on past refused ones.
-pub fn answer_hand_in<W: Write>(out: &mut W, case: &[u8]) -> io::Result<()> {
-    out.write_all(b"hand_in")?;
-    put_figures(out, &[0, 0])?;
-    let account = hand_in(out, case)?;
-    out.write_all(b" :")?;
-    let total = account.total_up().total;
-    if let Ok(sums) = total {
-        put_sums(out, sums)?;
+// Days handed in one after another, going on past refused ones: each refusal's number, 0 for none, then the sums and the account.
+pub fn answer_hand_in<W: Write>(out: &mut W, given: &[u8]) -> Result<()> {
+    put_answer(out, b"hand_in", Ok([]))?;
+    let account = hand_in(out, given)?;
+    match account.total_up().total {
+        Err(_) => put_list::<u64, W>(out, &[])?,
+        Ok(sums) => put_list(out, &sums_of(sums))?,
     }
     put_account(out, account)
 }
@@ -46,28 +37,14 @@ pub fn answer_hand_in<W: Write>(out: &mut W, case: &[u8]) -> io::Result<()> {
 // No month has more days handed in.
 const MOST_HANDED: usize = 64;
 
-fn hand_in<W: Write>(out: &mut W, case: &[u8]) -> io::Result<Account> {
-    let days = lesser(word(case, 1) as usize, MOST_HANDED);
+fn hand_in<W: Write>(out: &mut W, given: &[u8]) -> Result<Account> {
+    let days = past(given, 1);
     let mut account = Account::empty();
-    for row in 0..days {
-        account = hand_in_next(out, account, case, 2 + DAY * row as u16)?;
+    for row in 0..word_within(given, 0, MOST_HANDED) {
+        let taken = account.take_in(day_of(past_days(days, row)));
+        let number = taken.found.map_or_else(|refusal| refusal.number, |()| 0);
+        put_figures(out, &[number as u32])?;
+        account = taken.account;
     }
     Ok(account)
-}
-
-// What the account is after the day at a place; its refusal's number is printed, 0 for none.
-fn hand_in_next<W: Write>(out: &mut W, account: Account, case: &[u8], place: u16) -> Result<Account>
-    requires { place ≤ 4096 }
-{
-    let taken = account.take_in(day_at(case, place));
-    let found = taken.found;
-    put_number(out, found)?;
-    Ok(taken.account)
-}
-
-fn put_number<W: Write>(out: &mut W, found: Result<(), Refusal>) -> io::Result<()> {
-    match found {
-        Err(refusal) => put_figures(out, &[refusal.number as u64]),
-        Ok(()) => put_figures(out, &[0]),
-    }
 }

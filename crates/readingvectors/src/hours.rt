@@ -1,35 +1,48 @@
 // The hours of a day, as a case has them.
-ghost use Rattle.std.specs.Prelude.{◌≤◌};
-
-use crate::answers::put_metered;
-use crate::case::{wide, word};
-use readings::{HourReading, meter_day, reading_of};
+use cases::{past, put_list, put_verdict, wide, word};
+use metered::bare_hours;
+use readings::{DayGas, HourReading, bare_volumes, meter_day, reading_of};
 use std::io::{Result, Write};
+use units::{CubicMetres, Megajoules};
 
 // The words of an hour: its kind, then two for the bits of either number.
-const HOUR: u16 = 5;
+const HOUR: usize = 5;
+
+// A refusal's figures are zeros.
+const NO_GAS: DayGas = DayGas {
+    energies: [Megajoules(0); 24],
+    volumes: [CubicMetres(0); 24],
+    energy: Megajoules(0),
+    volume: CubicMetres(0),
+};
 
 // The bits of infinity, and what 1 counts for in the bit of the sign.
 const INFINITE: u64 = 0x7ff0_0000_0000_0000;
 
 const SIGN: u64 = 0x8000_0000_0000_0000;
 
-pub fn answer_meter_day<W: Write>(out: &mut W, case: &[u8]) -> Result<()> {
-    out.write_all(b"meter_day")?;
-    put_metered(out, meter_day(readings_in(case)))
+// Both sums, the energies and the volumes.
+pub fn answer_meter_day<W: Write>(out: &mut W, given: &[u8]) -> Result<()> {
+    let day = meter_day(readings_of(given));
+    put_verdict(
+        out,
+        b"meter_day",
+        day.map(|gas| [gas.energy.0, gas.volume.0]),
+    )?;
+    let gas = day.unwrap_or(NO_GAS);
+    put_list(out, &bare_hours(gas.energies))?;
+    put_list(out, &bare_volumes(gas.volumes))
 }
 
-fn readings_in(case: &[u8]) -> [HourReading; 24] {
-    std::array::from_fn(|hour| reading_at(case, 1 + HOUR * hour as u16))
+fn readings_of(given: &[u8]) -> [HourReading; 24] {
+    std::array::from_fn(|hour| reading_in(past(given, HOUR * hour)))
 }
 
-fn reading_at(case: &[u8], place: u16) -> HourReading
-    requires { place ≤ 121 }
-{
+fn reading_in(given: &[u8]) -> HourReading {
     reading_of(
-        (word(case, place as u32) % 256) as u8,
-        number_of(wide(case, place + 1)),
-        number_of(wide(case, place + 3)),
+        (word(given, 0) % 256) as u8,
+        number_of(wide(given, 1)),
+        number_of(wide(given, 3)),
     )
 }
 

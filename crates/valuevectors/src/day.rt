@@ -1,13 +1,27 @@
 // A day in memory: its head and counts, then how many numbers it has, and two byte strings of their halves. A number past these is 0.
 ghost use Rattle.std.specs.Prelude.{◌≤◌};
 
-use crate::case::{bytes, past, past_bytes, wide, word};
-use columns::lesser;
+use cases::{bytes, past, past_bytes, word, word_within};
 use dayformat::{Counts, Day, Head};
+use dayrows::Tables;
 use units::Gigajoules;
+
+// What a lent list holds before the call: no answer has it.
+pub const LENT: u32 = 4_000_000_000;
+
+// No lent list has more room: one more than a list of shippers may have.
+pub const MOST_ROWS: usize = 65;
 
 // No day has more numbers: one more than a full one.
 const MOST_NUMBERS: usize = dayformat::MOST_NUMBERS + 1;
+
+// What a routine is given: a day, its tables, and what else the case has.
+#[derive(Clone, Copy)]
+pub struct Given<'a> {
+    pub day: Day,
+    pub tables: Tables<'a>,
+    pub rest: &'a [u8],
+}
 
 pub fn day_of(case: &[u8]) -> Day {
     Day {
@@ -30,18 +44,16 @@ pub fn day_of(case: &[u8]) -> Day {
 pub fn length_of(case: &[u8]) -> usize
     ensures { result ≤ 10721 }
 {
-    lesser(word(case, 8) as usize, MOST_NUMBERS)
+    word_within(case, 8, MOST_NUMBERS)
 }
 
 pub fn numbers_of(case: &[u8]) -> [usize; MOST_NUMBERS] {
     let halves = past(case, 9);
     let lower = bytes(halves);
     let higher = bytes(past_bytes(halves));
-    let mut numbers = [0usize; MOST_NUMBERS];
-    for place in 0..MOST_NUMBERS {
-        numbers[place] = wide(word(higher, place), word(lower, place));
-    }
-    numbers
+    std::array::from_fn(|place| {
+        word(higher, place) as usize * 4_294_967_296 + word(lower, place) as usize
+    })
 }
 
 // What follows the day.

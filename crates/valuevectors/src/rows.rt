@@ -1,10 +1,8 @@
 // A number of a day, a row's tests, a shipper, a point.
-use crate::answers::{put_check, put_figures, put_refusal};
-use crate::case::word;
+use crate::day::Given;
+use cases::{put_answer, word};
 use dayformat::Tag;
-use dayrows::Tables;
-use std::io::{self, Write};
-use units::Refusal;
+use std::io::{Result, Write};
 
 // The tables' tags: 2 to 5, and 9.
 fn tag_of(tag: u32) -> Tag {
@@ -17,47 +15,27 @@ fn tag_of(tag: u32) -> Tag {
     }
 }
 
-pub fn answer_number<W: Write>(out: &mut W, tables: Tables, given: &[u8]) -> io::Result<()> {
-    let tag = tag_of(word(given, 0));
-    let number = dayvalues::number_at(tables, tag, word(given, 1), word(given, 2));
-    out.write_all(b"number_at")?;
-    put_figures(out, &[0, 0, number as u64])
+pub fn answer_number<W: Write>(out: &mut W, given: Given) -> Result<()> {
+    let tag = tag_of(word(given.rest, 0));
+    let row = word(given.rest, 1);
+    let column = word(given.rest, 2);
+    let number = dayvalues::number_at(given.tables, tag, row, column);
+    put_answer(out, b"number_at", Ok([number as u64]))
 }
 
-pub fn answer_row<W: Write>(out: &mut W, tables: Tables, given: &[u8]) -> io::Result<()> {
-    let tag = tag_of(word(given, 0));
-    let check = dayvalues::check_row(tables, tag, word(given, 1));
-    out.write_all(b"check_row")?;
-    put_check(out, check)
+pub fn answer_row<W: Write>(out: &mut W, given: Given) -> Result<()> {
+    let tag = tag_of(word(given.rest, 0));
+    let check = dayvalues::check_row(given.tables, tag, word(given.rest, 1));
+    put_answer(out, b"check_row", check.map(|()| []))
 }
 
-pub fn answer_shipper<W: Write>(out: &mut W, tables: Tables, given: &[u8]) -> io::Result<()> {
-    let row = dayvalues::shipper_at(tables, word(given, 0));
-    out.write_all(b"shipper_at")?;
-    put_shipper(out, row)
+pub fn answer_shipper<W: Write>(out: &mut W, given: Given) -> Result<()> {
+    let row = dayvalues::shipper_at(given.tables, word(given.rest, 0));
+    put_answer(out, b"shipper_at", row.map(|shipper| [shipper as u64]))
 }
 
-pub fn put_shipper<W: Write>(out: &mut W, row: Result<u16, Refusal>) -> io::Result<()> {
-    match row {
-        Err(refusal) => put_refusal(out, refusal),
-        Ok(shipper) => put_figures(out, &[0, 0, shipper as u64]),
-    }
-}
-
-pub fn answer_point<W: Write>(out: &mut W, tables: Tables, given: &[u8]) -> io::Result<()> {
-    let row = dayvalues::point_at(tables, word(given, 0));
-    out.write_all(b"point_at")?;
-    match row {
-        Err(refusal) => put_refusal(out, refusal),
-        Ok(point) => put_figures(
-            out,
-            &[
-                0,
-                0,
-                point.side as u64,
-                point.point as u64,
-                point.capacity.0,
-            ],
-        ),
-    }
+pub fn answer_point<W: Write>(out: &mut W, given: Given) -> Result<()> {
+    let row = dayvalues::point_at(given.tables, word(given.rest, 0));
+    let figures = row.map(|point| [point.side as u64, point.point as u64, point.capacity.0]);
+    put_answer(out, b"point_at", figures)
 }

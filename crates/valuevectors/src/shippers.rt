@@ -1,8 +1,6 @@
 // The columns of a day's shippers, and their shares.
-use crate::answers::{LENT_ROW, MOST_ROWS, put_check, put_figures, put_refusal, put_rows};
-use crate::case::{wide, word};
-use columns::lesser;
-use dayrows::Tables;
+use crate::day::{Given, LENT, MOST_ROWS};
+use cases::{put_answer, put_list, wide, word, word_within};
 use dayshares::Shares;
 use dayvalues::ShipperColumn;
 use std::io::{Result, Write};
@@ -18,74 +16,53 @@ fn column_of(place: u32) -> ShipperColumn {
     }
 }
 
-pub fn answer_check<W: Write>(out: &mut W, tables: Tables, given: &[u8]) -> Result<()> {
-    let column = column_of(word(given, 0));
-    let room = wide(word(given, 1), word(given, 2));
-    let check = dayvalues::check_column(tables, column, room);
-    out.write_all(b"check_column")?;
-    put_check(out, check)
+pub fn answer_check<W: Write>(out: &mut W, given: Given) -> Result<()> {
+    let column = column_of(word(given.rest, 0));
+    let room = wide(given.rest, 1) as usize;
+    let check = dayvalues::check_column(given.tables, column, room);
+    put_answer(out, b"check_column", check.map(|()| []))
 }
 
-pub fn answer_column<W: Write>(out: &mut W, tables: Tables, given: &[u8]) -> Result<()> {
-    let mut lent = [LENT_ROW; MOST_ROWS];
-    let column = column_of(word(given, 0));
-    let room = lesser(word(given, 1) as usize, MOST_ROWS);
-    let listed = dayvalues::shipper_column(tables, column, &mut lent[0..room]);
-    out.write_all(b"shipper_column")?;
-    match listed {
-        Err(refusal) => put_refusal(out, refusal)?,
-        Ok(rows) => {
-            put_figures(out, &[0, 0, rows as u64])?;
-        }
-    }
-    put_rows(out, &lent, room)
+pub fn answer_column<W: Write>(out: &mut W, given: Given) -> Result<()> {
+    let mut lent = [LENT; MOST_ROWS];
+    let column = column_of(word(given.rest, 0));
+    let room = word_within(given.rest, 1, MOST_ROWS);
+    let listed = dayvalues::shipper_column(given.tables, column, &mut lent[..room]);
+    put_answer(out, b"shipper_column", listed.map(|rows| [rows as u64]))?;
+    put_list(out, &lent[..room])
 }
 
-pub fn answer_shares<W: Write>(
-    out: &mut W,
-    day: dayformat::Day,
-    numbers: &[usize],
-    given: &[u8],
-) -> Result<()> {
-    let mut firm = [LENT_ROW; MOST_ROWS];
-    let mut auction = [LENT_ROW; MOST_ROWS];
-    let mut lower_tier = [LENT_ROW; MOST_ROWS];
-    let firm_room = lesser(word(given, 0) as usize, MOST_ROWS);
-    let auction_room = lesser(word(given, 1) as usize, MOST_ROWS);
-    let lower_tier_room = lesser(word(given, 2) as usize, MOST_ROWS);
+pub fn answer_shares<W: Write>(out: &mut W, given: Given) -> Result<()> {
+    let mut firm = [LENT; MOST_ROWS];
+    let mut auction = [LENT; MOST_ROWS];
+    let mut lower_tier = [LENT; MOST_ROWS];
+    let firm_room = word_within(given.rest, 0, MOST_ROWS);
+    let auction_room = word_within(given.rest, 1, MOST_ROWS);
+    let lower_tier_room = word_within(given.rest, 2, MOST_ROWS);
     let shared = numbershares::share_numbers(
-        day,
-        numbers,
-        &mut firm[0..firm_room],
-        &mut auction[0..auction_room],
-        &mut lower_tier[0..lower_tier_room],
+        given.day,
+        given.tables.numbers,
+        &mut firm[..firm_room],
+        &mut auction[..auction_room],
+        &mut lower_tier[..lower_tier_room],
     );
-    out.write_all(b"share_numbers")?;
-    match shared {
-        Err(refusal) => put_refusal(out, refusal)?,
-        Ok(shares) => put_shares(out, shares)?,
-    }
-    put_rows(out, &firm, firm_room)?;
-    put_rows(out, &auction, auction_room)?;
-    put_rows(out, &lower_tier, lower_tier_room)
+    put_answer(out, b"share_numbers", shared.map(figures_of))?;
+    put_list(out, &firm[..firm_room])?;
+    put_list(out, &auction[..auction_room])?;
+    put_list(out, &lower_tier[..lower_tier_room])
 }
 
-fn put_shares<W: Write>(out: &mut W, shares: Shares) -> Result<()> {
+fn figures_of(shares: Shares) -> [u64; 9] {
     let levels = shares.levels;
-    put_figures(
-        out,
-        &[
-            0,
-            0,
-            levels.one,
-            levels.two,
-            levels.three,
-            levels.auction,
-            levels.lower_tier,
-            shares.firm.0 as u64,
-            shares.auction.0 as u64,
-            shares.lower_tier.0 as u64,
-            shares.left.0 as u64,
-        ],
-    )
+    [
+        levels.one,
+        levels.two,
+        levels.three,
+        levels.auction,
+        levels.lower_tier,
+        shares.firm.0 as u64,
+        shares.auction.0 as u64,
+        shares.lower_tier.0 as u64,
+        shares.left.0 as u64,
+    ]
 }

@@ -1,80 +1,64 @@
 // An hour at a point, and system use gas.
-use crate::lines::{put_figures, put_megajoules, put_refusal};
-use crate::words::{MOST_ROWS, list, megajoules_of, past, past_list, signed, wide, word};
-use std::io::{self, Write};
-use units::{Gigajoules, Megajoules, Refusal};
+use crate::lists::{LENT, MOST_ROWS, list, past_list, wide_list};
+use cases::{past, put_answer, put_list, wide, word, word_within};
+use std::io::{Result, Write};
+use units::{Gigajoules, Megajoules};
 use usegas::Imbalance;
 
-// What a lent list holds before the call: no answer has it.
-const LENT: u64 = 4_000_000_000;
-
-pub fn answer_hour<W: Write>(out: &mut W, case: &[u32]) -> io::Result<()> {
-    let mut shares = [LENT; MOST_ROWS];
-    let room = (word(case, 2) as usize).min(MOST_ROWS);
-    let entitlements = past(case, 3);
-    let pairs = list(entitlements);
-    let figures = megajoules_of(pairs);
-    let rows = (pairs.len() / 2).min(MOST_ROWS);
+pub fn answer_hour<W: Write>(out: &mut W, given: &[u8]) -> Result<()> {
+    let mut shares = [u64::from(LENT); MOST_ROWS];
+    let room = word_within(given, 2, MOST_ROWS);
+    let entitlements = past(given, 3);
     let hour = pointshares::share_hour(
-        Megajoules(wide(case, 0)),
-        &figures[0..rows],
-        list(past_list(entitlements)),
-        &mut shares[0..room],
+        Megajoules(wide(given, 0)),
+        wide_list(entitlements).rows(),
+        list(past_list(entitlements)).rows(),
+        &mut shares[..room],
     );
-    out.write_all(b"share_hour")?;
-    match hour {
-        Err(refusal) => put_refusal(out, refusal)?,
-        Ok(given) => {
-            put_figures(out, &[0, 0, given.0])?;
-        }
-    }
-    put_megajoules(out, &shares[..room])
+    put_answer(out, b"share_hour", hour.map(|total| [total.0]))?;
+    put_list(out, &shares[..room])
 }
 
-pub fn answer_general<W: Write>(out: &mut W, case: &[u32]) -> io::Result<()> {
-    let mut shares = [LENT; MOST_ROWS];
-    let room = (word(case, 6) as usize).min(MOST_ROWS);
+pub fn answer_general<W: Write>(out: &mut W, given: &[u8]) -> Result<()> {
+    let mut shares = [u64::from(LENT); MOST_ROWS];
+    let room = word_within(given, 6, MOST_ROWS);
     let gas = usegas::share_general(
-        Megajoules(wide(case, 0)),
-        Megajoules(wide(case, 2)),
-        wide(case, 4) as usize,
-        list(past(case, 7)),
-        &mut shares[0..room],
+        Megajoules(wide(given, 0)),
+        Megajoules(wide(given, 2)),
+        wide(given, 4) as usize,
+        list(past(given, 7)).rows(),
+        &mut shares[..room],
     );
-    out.write_all(b"share_general")?;
-    put_gas(out, gas)?;
-    put_megajoules(out, &shares[..room])
+    put_answer(out, b"share_general", gas.map(|total| [total.0]))?;
+    put_list(out, &shares[..room])
 }
 
-pub fn answer_heater<W: Write>(out: &mut W, case: &[u32]) -> io::Result<()> {
-    let mut shares = [LENT; MOST_ROWS];
-    let room = (word(case, 2) as usize).min(MOST_ROWS);
+pub fn answer_heater<W: Write>(out: &mut W, given: &[u8]) -> Result<()> {
+    let mut shares = [u64::from(LENT); MOST_ROWS];
+    let room = word_within(given, 2, MOST_ROWS);
     let gas = usegas::share_heater(
-        Megajoules(wide(case, 0)),
-        list(past(case, 3)),
-        &mut shares[0..room],
+        Megajoules(wide(given, 0)),
+        list(past(given, 3)).rows(),
+        &mut shares[..room],
     );
-    out.write_all(b"share_heater")?;
-    put_gas(out, gas)?;
-    put_megajoules(out, &shares[..room])
+    put_answer(out, b"share_heater", gas.map(|total| [total.0]))?;
+    put_list(out, &shares[..room])
 }
 
-fn put_gas<W: Write>(out: &mut W, gas: Result<Megajoules, Refusal>) -> io::Result<()> {
-    match gas {
-        Err(refusal) => put_refusal(out, refusal),
-        Ok(given) => put_figures(out, &[0, 0, given.0]),
-    }
-}
-
-pub fn answer_fuel<W: Write>(out: &mut W, case: &[u32]) -> io::Result<()> {
+pub fn answer_fuel<W: Write>(out: &mut W, given: &[u8]) -> Result<()> {
     let fuel = usegas::imbalance_fuel(
-        Imbalance(signed(case, 0)),
-        Imbalance(signed(case, 2)),
-        Gigajoules(word(case, 4)),
+        imbalance_of(given),
+        imbalance_of(past(given, 2)),
+        Gigajoules(word(given, 4)),
     );
-    out.write_all(b"imbalance_fuel")?;
-    match fuel {
-        Err(refusal) => put_refusal(out, refusal),
-        Ok(supplied) => put_figures(out, &[0, 0, supplied.0]),
+    put_answer(out, b"imbalance_fuel", fuel.map(|supplied| [supplied.0]))
+}
+
+// A word says whether it is below zero, and the next how far from it.
+fn imbalance_of(given: &[u8]) -> Imbalance {
+    let size = word(given, 1) as i64;
+    if word(given, 0) == 0 {
+        return Imbalance(size);
     }
+    Imbalance(-size)
 }
