@@ -7,8 +7,10 @@ use Rattle.units.specs.declared.Rate.{Rate}
 use Rattle.units.specs.Bound.{most_rate}
 use Rattle.units.proofs.Checks.{accepts-both, accepts-kept}
 use Rattle.tariff.specs.Charges.{overrun_check}
-use Rattle.overruns.specs.Day.{ShipperDay, day_verdict}
-use Rattle.overruns.specs.Excused.{ExcusedHours, excused_day_answer}
+use Rattle.overruns.specs.declared.day.ShipperDay.{ShipperDay}
+use Rattle.overruns.specs.Day.{day_verdict}
+use Rattle.overruns.specs.declared.day.ExcusedHours.{ExcusedHours}
+use Rattle.overruns.specs.Excused.{excused_day_answer}
 use Rattle.overruns.proofs.Promises.{excused-day-kept}
 
 pub charges_accept : (rate : Rate) (D : ShipperDay) (E : ExcusedHours) → rate.0 ≤ most_rate

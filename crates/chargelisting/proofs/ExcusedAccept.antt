@@ -15,7 +15,7 @@ use Rattle.metered.specs.Hours.{bare_hours}
 use Rattle.dayformat.specs.declared.day.Day.{Day}
 use Rattle.dayformat.specs.declared.form.Tag.TheVariants.{Meter, Excused}
 use Rattle.dayformat.specs.Layout.{count, row_start}
-use Rattle.overruns.specs.Day.{ShipperDay}
+use Rattle.overruns.specs.declared.day.ShipperDay.{ShipperDay}
 use Rattle.overruns.specs.Excused.{excused_day_check}
 use Rattle.overruns.proofs.Accepting.{excused-accepts}
 use Rattle.overruns.proofs.Nothing.{check-nothing}

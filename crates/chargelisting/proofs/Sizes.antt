@@ -21,8 +21,10 @@ use Rattle.dayformat.specs.declared.day.Day.{Day}
 use Rattle.dayformat.specs.declared.form.Tag.TheVariants.{Meter}
 use Rattle.dayformat.specs.Format.{column_in}
 use Rattle.dayformat.specs.Layout.{count}
-use Rattle.overruns.specs.Day.{ShipperDay, day_verdict}
-use Rattle.overruns.specs.Excused.{ExcusedHours, excused_day_answer}
+use Rattle.overruns.specs.declared.day.ShipperDay.{ShipperDay}
+use Rattle.overruns.specs.Day.{day_verdict}
+use Rattle.overruns.specs.declared.day.ExcusedHours.{ExcusedHours}
+use Rattle.overruns.specs.Excused.{excused_day_answer}
 use Rattle.overruns.proofs.Promises.{excused-day-kept}
 use Rattle.dayrows.specs.Private.{Sound}
 use Rattle.dayvalues.proofs.Sounds.{sound-number}

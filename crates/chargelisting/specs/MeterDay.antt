@@ -2,8 +2,8 @@
 use Rattle.std.specs.Prelude.{List, ℕ}
 use Rattle.columns.specs.Column.{col}
 use Rattle.dayformat.specs.declared.layout.Counts.{Counts}
-use Rattle.overruns.specs.Day.{ShipperDay}
-use Rattle.overruns.specs.Excused.{ExcusedHours}
+use Rattle.overruns.specs.declared.day.ShipperDay.{ShipperDay}
+use Rattle.overruns.specs.declared.day.ExcusedHours.{ExcusedHours}
 use Rattle.daymeters.specs.Figures.{meter_figures}
 use Rattle.daymeters.specs.Hours.{meter_yesterday, meter_hours}
 use Rattle.daymeters.specs.Excused.{excused_row, excused_yesterday, excused_hours}

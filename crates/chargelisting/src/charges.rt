@@ -4,13 +4,13 @@ ghost use Rattle.daymeters.specs.Figures.{meter_figures};
 ghost use Rattle.tariff.specs.Charges.{overrun_charge, charge_verdict};
 ghost use Rattle.chargelisting.specs.ChargesText.{overruns_of, charge_figures};
 
-use dayformat::Counts;
 use daymeters::{
     MeterFigures, excused_hours, excused_row, excused_yesterday, meter_figures, meter_hours,
     meter_yesterday,
 };
+use dayrows::Tables;
 use metered::Side;
-use overruns::{Overruns, overruns_of_day};
+use overruns::{ExcusedHours, Overruns, ShipperDay, overruns_of_day};
 use tariff::overrun_charge;
 use units::{Cents, Gigajoules, Megajoules, Rate};
 
@@ -37,31 +37,31 @@ const NO_FIGURES: MeterFigures = MeterFigures {
 };
 
 // A meter's figures, all zero where they are refused.
-fn figures_of(counts: Counts, numbers: &[usize], row: u32) -> MeterFigures
-    ensures { result ≡ meter_figures counts numbers.now row }
+fn figures_of(tables: Tables, row: u32) -> MeterFigures
+    ensures { result ≡ meter_figures tables.entry.counts tables.entry.numbers.now row }
 {
-    meter_figures(counts, numbers, row).unwrap_or(NO_FIGURES)
+    meter_figures(tables, row).unwrap_or(NO_FIGURES)
 }
 
 // A meter's overruns, all zero where they are refused.
-fn overruns_of(counts: Counts, numbers: &[usize], row: u32) -> Overruns
-    ensures { result ≡ overruns_of counts numbers.now row }
+fn overruns_of(tables: Tables, row: u32) -> Overruns
+    ensures { result ≡ overruns_of tables.entry.counts tables.entry.numbers.now row }
 {
-    let figures = figures_of(counts, numbers, row);
-    let yesterday = meter_yesterday(counts, numbers, row);
-    let hours = meter_hours(counts, numbers, row);
-    let excused = excused_row(counts, numbers, figures.shipper);
-    overruns_of_day(
-        figures.p,
-        figures.m,
-        yesterday,
-        hours,
-        figures.receipt,
-        figures.delivery,
-        excused_yesterday(counts, numbers, excused),
-        excused_hours(counts, numbers, excused),
-    )
-    .unwrap_or(NO_OVERRUNS)
+    let figures = figures_of(tables, row);
+    let excused_row = excused_row(tables, figures.shipper);
+    let day = ShipperDay {
+        p: figures.p,
+        m: figures.m,
+        yesterday: meter_yesterday(tables, row),
+        hours: meter_hours(tables, row),
+        receipt: figures.receipt,
+        delivery: figures.delivery,
+    };
+    let excused = ExcusedHours {
+        yesterday: excused_yesterday(tables, excused_row),
+        hours: excused_hours(tables, excused_row),
+    };
+    overruns_of_day(&day, &excused).unwrap_or(NO_OVERRUNS)
 }
 
 // What an overrun costs, zero where it is refused.
@@ -72,11 +72,11 @@ fn cents_of(rate: Rate, overrun: Megajoules) -> u64
 }
 
 // The figures of a meter's line.
-pub fn charge_figures(rate: Rate, counts: Counts, numbers: &[usize], row: u32) -> [u64; 7]
-    ensures { result ≡ charge_figures rate counts numbers.now row }
+pub fn charge_figures(rate: Rate, tables: Tables, row: u32) -> [u64; 7]
+    ensures { result ≡ charge_figures rate tables.entry.counts tables.entry.numbers.now row }
 {
-    let figures = figures_of(counts, numbers, row);
-    let over = overruns_of(counts, numbers, row);
+    let figures = figures_of(tables, row);
+    let over = overruns_of(tables, row);
     [
         figures.shipper as u64,
         over.hourly.0,

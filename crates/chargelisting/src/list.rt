@@ -6,9 +6,10 @@ ghost use Rattle.dayfile.specs.File.{walked};
 ghost use Rattle.dayruns.specs.Walk.{file_check};
 ghost use Rattle.chargelisting.specs.ChargesText.{charges_text, charges_check, charges_listing};
 
-use crate::chargestext::put_charges;
+use crate::chargestext::Charges;
 use dayfile::read_day;
 use dayformat::{Day, MOST_NUMBERS, numbers_of};
+use lines::list;
 use units::{MOST_RATE, Rate, Refusal};
 
 // Lists a day file's overrun charges at a rate: the text goes to the front of a lent block.
@@ -32,16 +33,10 @@ fn list_file(file: &[u8], rate: Rate, lent: &mut [u8]) -> Result<usize, Refusal>
     list_day(day, rate, &numbers[..count], lent)
 }
 
-// A sound day's listing; 7 exactly when its text is longer than the block. Laid from the block's end on, it is only counted.
+// A sound day's listing; 7 exactly when its text is longer than the block.
 fn list_day(day: Day, rate: Rate, numbers: &[usize], lent: &mut [u8]) -> Result<usize, Refusal>
     requires { Sound day numbers.now }
     ensures { ListingAnswered (Ok tt) (charges_text rate day numbers.now) lent.old lent.new result }
 {
-    let room = lent.len();
-    let size = put_charges(day, rate, numbers, lent, room);
-    if room < size {
-        return Err(Refusal::plain(7));
-    }
-    put_charges(day, rate, numbers, lent, 0);
-    Ok(size)
+    list(&Charges { day, rate, numbers }, lent)
 }

@@ -27,7 +27,8 @@ use Rattle.readings.proofs.Decided.{readings-placed, metered_decided}
 use Rattle.daytable.specs.Table.{Table}
 use Rattle.daytable.proofs.Accepting.{accepting}
 use Rattle.daytable.proofs.Decided.{table-placed}
-use Rattle.overruns.specs.Excused.{ExcusedHours, nothing_excused}
+use Rattle.overruns.specs.declared.day.ExcusedHours.{ExcusedHours}
+use Rattle.overruns.specs.Excused.{nothing_excused}
 use Rattle.overruns.proofs.Nothing.{check-nothing, overruns-nothing, day-nothing}
 use Rattle.dayformat.specs.Layout.{numbers_in}
 use Rattle.dayshares.specs.Answer.{shares_answer, shares_verdict}

@@ -23,8 +23,10 @@ use Rattle.metered.specs.declared.Side.{Side}
 use Rattle.metered.specs.Hours.{bare_hours, delivered, received, hours_check}
 use Rattle.metered.specs.Excused.{both_have, first_above_metered, excused_check, excused_hours_check}
 use Rattle.metered.specs.Singles.{mdqs_check, side_check, sides_check}
-use Rattle.overruns.specs.Day.{ShipperDay, day_check, day_where}
-use Rattle.overruns.specs.Excused.{ExcusedHours, excused_day_overruns, excused_day_check, excused_day_answer}
+use Rattle.overruns.specs.declared.day.ShipperDay.{ShipperDay}
+use Rattle.overruns.specs.Day.{day_check, day_where}
+use Rattle.overruns.specs.declared.day.ExcusedHours.{ExcusedHours}
+use Rattle.overruns.specs.Excused.{excused_day_overruns, excused_day_check, excused_day_answer}
 use Rattle.overruns.proofs.Promises.{excused-day-kept}
 use Rattle.chargelisting.proofs.OverrunsAccept.{same-figures}
 use Rattle.chargelisting.proofs.Sizes.{most_cents, cents-most}

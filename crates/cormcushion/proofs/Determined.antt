@@ -3,7 +3,7 @@ use Rattle.std.specs.Prelude.{Result}
 use mathlib.Core.Path.{◌≡◌, sym, ap, ◌∙◌}
 use mathlib.Core.List.{List}
 use Prim.Native.Nat.{ℕ}
-use Rattle.units.specs.Refusals.{accepted_or, Check}
+use Rattle.units.specs.Refusals.{Check}
 use Rattle.units.proofs.Determined.{determined}
 use Rattle.rounds.proofs.Determined.{round_determined}
 use Rattle.lines.proofs.Determined.{listed_determined}
@@ -16,7 +16,7 @@ use Rattle.dayfile.proofs.Determined.{reading_determined}
 use Rattle.cormcushion.specs.Answers.{of_listing, of_reading, of_round, of_shares, with_day, with_levels}
 use Rattle.cormcushion.specs.Lent.{ListingPacked, ReadingPacked, RoundPacked, SharesPacked}
 use Rattle.cormcushion.specs.Meter.{PricePacked}
-use Rattle.cormcushion.specs.DayGas.{of_metered, DayGasPacked}
+use Rattle.cormcushion.specs.DayGas.{of_metered, with_gas, DayGasPacked}
 use Rattle.overruns.specs.declared.day.Overruns.{Overruns}
 use Rattle.units.specs.declared.refusal.Refusal.{Refusal}
 
@@ -67,7 +67,7 @@ pub gas_determined : {readings : List HourReading} {energies volumes e₁ e₂ v
 gas_determined {energies = energies} {volumes} {volume = volume} a b =
     let is = determined a.answers b.answers in (
       same of_metered a.packs b.packs is,
-      same (λ day. accepted_or day.found (bare_hours day.gas.energies) energies) a.leaves_energies b.leaves_energies is,
-      same (λ day. accepted_or day.found (bare_volumes day.gas.volumes) volumes) a.leaves_volumes b.leaves_volumes is,
-      same (λ day. accepted_or day.found day.gas.volume.0 volume) a.leaves_volume b.leaves_volume is,
+      same (λ day. with_gas (λ gas. bare_hours gas.energies) day energies) a.leaves_energies b.leaves_energies is,
+      same (λ day. with_gas (λ gas. bare_volumes gas.volumes) day volumes) a.leaves_volumes b.leaves_volumes is,
+      same (λ day. with_gas (λ gas. gas.volume.0) day volume) a.leaves_volume b.leaves_volume is,
     )

@@ -20,7 +20,7 @@ pub record ListingPacked (tests : Check) (text lent after : List ℕ) (packed : 
 
 -- a day file read
 pub record ReadingPacked (file day_lent lent : List ℕ) (packed : ℕ) (day_after after : List ℕ) : Type 0 where
-  pub reading : Result (Result Shares Refusal) Refusal
+  pub reading : Result Day Refusal
   pub answers : ReadingAnswered file lent after reading
   pub packs : packed ≡ of_reading reading
   pub leaves_day : day_after ≡ with_day reading day_lent

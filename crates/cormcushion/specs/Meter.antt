@@ -8,8 +8,10 @@ use Rattle.units.specs.Refusals.{◌then◌, keep, accepted_or, Check}
 use Rattle.tariff.specs.Charges.{overrun_cents, overrun_charge}
 use Rattle.metered.specs.declared.Side.{Side}
 use Rattle.overruns.specs.declared.day.Overruns.{Overruns}
-use Rattle.overruns.specs.Day.{ShipperDay, day_overruns, day_check, day_answer}
-use Rattle.overruns.specs.Excused.{ExcusedHours, excused_day_overruns, excused_day_check, excused_day_answer}
+use Rattle.overruns.specs.declared.day.ShipperDay.{ShipperDay}
+use Rattle.overruns.specs.Day.{day_overruns, day_check, day_answer}
+use Rattle.overruns.specs.declared.day.ExcusedHours.{ExcusedHours}
+use Rattle.overruns.specs.Excused.{excused_day_overruns, excused_day_check, excused_day_answer}
 use Rattle.daymeters.specs.Hours.{megajoules}
 use Rattle.cormcushion.specs.Packed.{accepted, refused}
 use Rattle.units.specs.declared.Cents.{Cents}

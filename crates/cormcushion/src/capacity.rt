@@ -5,6 +5,7 @@ ghost use Rattle.cormcushion.specs.Lent.{RoundPacked, SharesPacked};
 
 use crate::answers::{of_round, of_shares};
 use dayshares::{Levels, Shares, share_day};
+use daytable::DayTable;
 use rounds::share_round;
 use units::{Gigajoules, Refusal};
 
@@ -21,6 +22,7 @@ pub fn cormcushion_share_round(
 }
 
 // A day's shares: LEFT, with each class's shares at the front of its lent list, and the levels of the five rounds in `levels`.
+// The table's figures come one by one: the C interface.
 pub fn cormcushion_share_day(
     free_flow: u32,
     compressor: u32,
@@ -48,18 +50,16 @@ pub fn cormcushion_share_day(
         result
         firm.new auction.new lower_tier.new levels.new }
 {
-    let day = share_day(
-        Gigajoules(free_flow),
-        Gigajoules(compressor),
+    let table = DayTable {
+        free_flow: Gigajoules(free_flow),
+        compressor: Gigajoules(compressor),
         firm_mdq,
         auction_mdq,
         firm_schedule,
         auction_schedule,
         lower_tier_schedule,
-        firm,
-        auction,
-        lower_tier,
-    );
+    };
+    let day = share_day(&table, firm, auction, lower_tier);
     put_levels(day, levels);
     of_shares(day)
 }

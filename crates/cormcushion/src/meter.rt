@@ -1,7 +1,5 @@
 // One shipper's metered day: its overruns and their charge.
 ghost use Rattle.std.specs.Prelude.{◌≡◌, ◌≤◌};
-ghost use Rattle.overruns.specs.Day.{day_answer};
-ghost use Rattle.overruns.specs.Excused.{excused_day_answer};
 ghost use Rattle.tariff.specs.Charges.{overrun_charge};
 ghost use Rattle.cormcushion.specs.Meter.{side_of, shipper_day, overrun_figures, rate_of};
 ghost use Rattle.cormcushion.specs.Meter.{of_charge, with_charge, of_overruns, with_overruns, excused_of};
@@ -10,11 +8,12 @@ ghost use Rattle.cormcushion.specs.Meter.{PricePacked, ChargePacked, ExcusedChar
 use crate::hours::hours_of;
 use crate::packed::{accepted, refused};
 use metered::Side;
-use overruns::{Overruns, metered_overruns, overruns_of_day};
+use overruns::{ExcusedHours, Overruns, ShipperDay, metered_overruns, overruns_of_day};
 use tariff::overrun_charge;
 use units::{Gigajoules, MOST_RATE, Megajoules, Rate, Refusal, keep};
 
 // The charge in cents for the greatest of a day's four overruns, with the four and the greatest in `lent`.
+// The day's figures come one by one, here and below: the C interface.
 pub fn cormcushion_overruns(
     rate: u32,
     p: u32,
@@ -31,8 +30,8 @@ pub fn cormcushion_overruns(
         schedules.now metered.now)
         lent.old result lent.new }
 {
-    let over = metered_of(p, m, yesterday, delivered, received, schedules, metered);
-    price_rated(rate, over, lent)
+    let day = shipper_day(p, m, yesterday, delivered, received, schedules, metered);
+    price_rated(rate, metered_overruns(&day), lent)
 }
 
 // The same with hours excused (cl. 5.4): yesterday's, delivered, received.
@@ -56,19 +55,9 @@ pub fn cormcushion_overruns_excused(
         (excused_of excused_yesterday.now excused_delivered.now excused_received.now)
         lent.old result lent.new }
 {
-    let over = overruns_of(
-        p,
-        m,
-        yesterday,
-        delivered,
-        received,
-        schedules,
-        metered,
-        excused_yesterday,
-        excused_delivered,
-        excused_received,
-    );
-    price_rated(rate, over, lent)
+    let day = shipper_day(p, m, yesterday, delivered, received, schedules, metered);
+    let excused = excused_of(excused_yesterday, excused_delivered, excused_received);
+    price_rated(rate, overruns_of_day(&day, &excused), lent)
 }
 
 // A side's single figures: 0 receipt, 1 delivery.
@@ -83,8 +72,8 @@ fn side_of(schedules: &[u32; 4], metered: &[u64; 2], side: usize) -> Side
     }
 }
 
-// A day's overruns of which nothing is excused.
-fn metered_of(
+// A shipper's day from its numbers.
+fn shipper_day(
     p: u32,
     m: u32,
     yesterday: &[u64; 11],
@@ -92,52 +81,28 @@ fn metered_of(
     received: &[u64; 24],
     schedules: &[u32; 4],
     metered: &[u64; 2],
-) -> Result<Overruns, Refusal>
-    ensures { result ≡ day_answer
-        (shipper_day p m yesterday.now delivered.now received.now
-        schedules.now metered.now) }
+) -> ShipperDay
+    ensures { result ≡ shipper_day p m yesterday.now delivered.now received.now
+        schedules.now metered.now }
 {
-    let both = [hours_of(delivered), hours_of(received)];
-    metered_overruns(
-        Gigajoules(p),
-        Gigajoules(m),
-        hours_of(yesterday),
-        both,
-        side_of(schedules, metered, 0),
-        side_of(schedules, metered, 1),
-    )
+    ShipperDay {
+        p: Gigajoules(p),
+        m: Gigajoules(m),
+        yesterday: hours_of(yesterday),
+        hours: [hours_of(delivered), hours_of(received)],
+        receipt: side_of(schedules, metered, 0),
+        delivery: side_of(schedules, metered, 1),
+    }
 }
 
-// The same with hours excused.
-fn overruns_of(
-    p: u32,
-    m: u32,
-    yesterday: &[u64; 11],
-    delivered: &[u64; 24],
-    received: &[u64; 24],
-    schedules: &[u32; 4],
-    metered: &[u64; 2],
-    excused_yesterday: &[u64; 11],
-    excused_delivered: &[u64; 24],
-    excused_received: &[u64; 24],
-) -> Result<Overruns, Refusal>
-    ensures { result ≡ excused_day_answer
-        (shipper_day p m yesterday.now delivered.now received.now
-        schedules.now metered.now)
-        (excused_of excused_yesterday.now excused_delivered.now excused_received.now) }
+// Its excused hours.
+fn excused_of(yesterday: &[u64; 11], delivered: &[u64; 24], received: &[u64; 24]) -> ExcusedHours
+    ensures { result ≡ excused_of yesterday.now delivered.now received.now }
 {
-    let both = [hours_of(delivered), hours_of(received)];
-    let excused = [hours_of(excused_delivered), hours_of(excused_received)];
-    overruns_of_day(
-        Gigajoules(p),
-        Gigajoules(m),
-        hours_of(yesterday),
-        both,
-        side_of(schedules, metered, 0),
-        side_of(schedules, metered, 1),
-        hours_of(excused_yesterday),
-        excused,
-    )
+    ExcusedHours {
+        yesterday: hours_of(yesterday),
+        hours: [hours_of(delivered), hours_of(received)],
+    }
 }
 
 // Hourly, twelve-hourly, daily receipt, daily delivery, the greatest.

@@ -7,7 +7,7 @@ ghost use Rattle.dayfields.specs.Field.{Taken};
 
 use crate::row::read_row;
 use dayformat::{Counts, HEADER, Tag, row_place};
-use dayrows::{Fault, Source, breaks, row_fault};
+use dayrows::{Fault, Source, Tables, breaks, row_fault};
 
 // The first fault of the field at a byte. The row of a field that is whole goes into the numbers.
 pub fn take_field(
@@ -23,5 +23,5 @@ pub fn take_field(
 {
     breaks(file, tag, at)?;
     read_row(file, tag, at + HEADER, numbers, row_place(counts, tag, row));
-    row_fault(source, counts, numbers, tag, row)
+    row_fault(source, Tables { counts, numbers }, tag, row)
 }

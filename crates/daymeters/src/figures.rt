@@ -8,7 +8,8 @@ ghost use Rattle.daymeters.specs.Figures.{side_of, figures_of, meter_answer};
 
 use crate::check_meter;
 use crate::hours::{METERED, megajoules_at};
-use dayformat::{Counts, Tag};
+use dayformat::Tag;
+use dayrows::Tables;
 use dayvalues::number_at;
 use metered::Side;
 use units::{Gigajoules, Refusal};
@@ -26,43 +27,43 @@ pub struct MeterFigures {
 const SIDES: u32 = METERED + 11 + 24 + 24;
 
 // The gigajoules at a place.
-fn gigajoules_at(counts: Counts, numbers: &[usize], row: u32, place: u32) -> Gigajoules
-    requires { meter_at counts (col numbers.now) row place ≤ most_gigajoules }
-    ensures { result.0 ≡ meter_at counts (col numbers.now) row place }
+fn gigajoules_at(tables: Tables, row: u32, place: u32) -> Gigajoules
+    requires { meter_at tables.counts (col tables.numbers.now) row place ≤ most_gigajoules }
+    ensures { result.0 ≡ meter_at tables.entry.counts (col tables.entry.numbers.now) row place }
 {
-    Gigajoules(number_at(counts, numbers, Tag::Meter, row, place) as u32)
+    Gigajoules(number_at(tables, Tag::Meter, row, place) as u32)
 }
 
 // A side's figures: 0 receipt, 1 delivery.
-fn side_of(counts: Counts, numbers: &[usize], row: u32, side: u32) -> Side
-    requires { Bounded counts (col numbers.now) row × (side ≤ 1) }
-    ensures { result ≡ side_of counts (col numbers.now) row side }
+fn side_of(tables: Tables, row: u32, side: u32) -> Side
+    requires { Bounded tables.counts (col tables.numbers.now) row × (side ≤ 1) }
+    ensures { result ≡ side_of tables.entry.counts (col tables.entry.numbers.now) row side }
 {
     Side {
-        forward: gigajoules_at(counts, numbers, row, SIDES + side),
-        backhaul: gigajoules_at(counts, numbers, row, SIDES + 2 + side),
-        metered: megajoules_at(counts, numbers, Tag::Meter, row, SIDES + 4 + side),
+        forward: gigajoules_at(tables, row, SIDES + side),
+        backhaul: gigajoules_at(tables, row, SIDES + 2 + side),
+        metered: megajoules_at(tables, Tag::Meter, row, SIDES + 4 + side),
     }
 }
 
-fn figures_of(counts: Counts, numbers: &[usize], row: u32) -> MeterFigures
-    requires { Bounded counts (col numbers.now) row }
-    ensures { result ≡ figures_of counts (col numbers.now) row }
+fn figures_of(tables: Tables, row: u32) -> MeterFigures
+    requires { Bounded tables.counts (col tables.numbers.now) row }
+    ensures { result ≡ figures_of tables.entry.counts (col tables.entry.numbers.now) row }
 {
-    let shipper = number_at(counts, numbers, Tag::Meter, row, 0);
+    let shipper = number_at(tables, Tag::Meter, row, 0);
     MeterFigures {
         shipper: shipper as u16,
-        p: gigajoules_at(counts, numbers, row, 1),
-        m: gigajoules_at(counts, numbers, row, 2),
-        receipt: side_of(counts, numbers, row, 0),
-        delivery: side_of(counts, numbers, row, 1),
+        p: gigajoules_at(tables, row, 1),
+        m: gigajoules_at(tables, row, 2),
+        receipt: side_of(tables, row, 0),
+        delivery: side_of(tables, row, 1),
     }
 }
 
 // The single figures of a row.
-pub fn meter_figures(counts: Counts, numbers: &[usize], row: u32) -> Result<MeterFigures, Refusal>
-    ensures { result ≡ meter_answer counts numbers.now row }
+pub fn meter_figures(tables: Tables, row: u32) -> Result<MeterFigures, Refusal>
+    ensures { result ≡ meter_answer tables.entry.counts tables.entry.numbers.now row }
 {
-    check_meter(counts, numbers, row)?;
-    Ok(figures_of(counts, numbers, row))
+    check_meter(tables, row)?;
+    Ok(figures_of(tables, row))
 }

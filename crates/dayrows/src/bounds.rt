@@ -22,10 +22,10 @@ pub fn is_within(column: Column, number: usize) -> bool
 
 // Whether every number of a row is within its bounds.
 pub fn is_bounded(row: Row) -> bool
-    ensures { result ≡ bounded (col row.entry.numbers.now) row.entry.tag row.entry.at }
+    ensures { result ≡ bounded (col row.entry.tables.numbers.now) row.entry.tag row.entry.at }
 {
     (0..form_of(row.tag).columns).all(|place| is_within(
         column_at(row.tag, place),
-        number_of(row.numbers, row.at + place),
+        number_of(row.tables.numbers, row.at + place),
     ))
 }

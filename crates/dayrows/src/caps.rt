@@ -6,6 +6,7 @@ ghost use Rattle.dayrows.specs.Test.{all_under, caps, capped};
 use crate::bounds::number_of;
 use crate::keys::{first_difference, lists};
 use crate::row::Row;
+use crate::tables::Tables;
 use dayformat::{cap_of, count_of, form_of, names_of, row_place};
 
 // Whether none of so many numbers from one place on is above that from another on.
@@ -18,25 +19,26 @@ fn all_under(numbers: &[usize], many: usize, one: usize, other: usize) -> bool
 
 // Whether another row has the first name of a row, and caps its numbers.
 fn caps(row: Row, other: u32) -> bool
-    ensures { result ≡ caps row.entry.counts (col row.entry.numbers.now) row.entry.tag row.entry.at other }
+    ensures { result ≡ caps row.entry.tables.counts (col row.entry.tables.numbers.now) row.entry.tag row.entry.at other }
 {
+    let Tables { counts, numbers } = row.tables;
     let name = names_of(row.tag)[0];
     let key = form_of(name.tag).key;
-    let start = row_place(row.counts, name.tag, other);
-    if first_difference(row.numbers, key, start, row.at + name.place) < key {
+    let start = row_place(counts, name.tag, other);
+    if first_difference(numbers, key, start, row.at + name.place) < key {
         return false;
     }
     let cap = cap_of(row.tag);
-    all_under(row.numbers, cap.many, row.at + cap.place, start + cap.under)
+    all_under(numbers, cap.many, row.at + cap.place, start + cap.under)
 }
 
 // Whether some row that a row names caps its numbers, where there is any.
 pub fn is_capped(row: Row) -> bool
-    ensures { result ≡ capped row.entry.counts (col row.entry.numbers.now) row.entry.tag row.entry.at }
+    ensures { result ≡ capped row.entry.tables.counts (col row.entry.tables.numbers.now) row.entry.tag row.entry.at }
 {
     let name = names_of(row.tag)[0];
-    if !lists(row.counts, row.numbers, name.tag, row.at + name.place) {
+    if !lists(row.tables, name.tag, row.at + name.place) {
         return true;
     }
-    (0..count_of(row.counts, name.tag)).any(|other| caps(row, other))
+    (0..count_of(row.tables.counts, name.tag)).any(|other| caps(row, other))
 }

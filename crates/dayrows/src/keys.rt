@@ -5,7 +5,8 @@ ghost use Rattle.dayrows.specs.Test.{difference, rises, lists, named};
 
 use crate::bounds::number_of;
 use crate::row::Row;
-use dayformat::{Counts, Tag, count_of, form_of, names_of, row_place};
+use crate::tables::Tables;
+use dayformat::{Tag, count_of, form_of, names_of, row_place};
 
 // The first of so many numbers in which those from one place on differ from those from another.
 pub fn first_difference(numbers: &[usize], many: usize, one: usize, other: usize) -> usize
@@ -18,12 +19,13 @@ pub fn first_difference(numbers: &[usize], many: usize, one: usize, other: usize
 }
 
 // Whether a row's key is greater than that of the row before.
-pub fn rises(counts: Counts, numbers: &[usize], tag: Tag, row: u32) -> bool
-    ensures { result ≡ rises counts (col numbers.now) tag row }
+pub fn rises(tables: Tables, tag: Tag, row: u32) -> bool
+    ensures { result ≡ rises tables.entry.counts (col tables.entry.numbers.now) tag row }
 {
     if row == 0 {
         return true;
     }
+    let Tables { counts, numbers } = tables;
     let key = form_of(tag).key;
     let before = row_place(counts, tag, row - 1);
     let here = row_place(counts, tag, row);
@@ -32,10 +34,11 @@ pub fn rises(counts: Counts, numbers: &[usize], tag: Tag, row: u32) -> bool
 }
 
 // Whether some row of the tag has the key that stands at a place.
-pub fn lists(counts: Counts, numbers: &[usize], tag: Tag, at: usize) -> bool
+pub fn lists(tables: Tables, tag: Tag, at: usize) -> bool
     requires { at < 2 ^ 41 }
-    ensures { result ≡ lists counts (col numbers.now) tag at }
+    ensures { result ≡ lists tables.entry.counts (col tables.entry.numbers.now) tag at }
 {
+    let Tables { counts, numbers } = tables;
     let key = form_of(tag).key;
     let rows = count_of(counts, tag);
     (0..rows).any(|row| key <= first_difference(numbers, key, row_place(counts, tag, row), at))
@@ -43,12 +46,9 @@ pub fn lists(counts: Counts, numbers: &[usize], tag: Tag, at: usize) -> bool
 
 // Whether a row names only shippers and points that are listed.
 pub fn is_named(row: Row) -> bool
-    ensures { result ≡ named row.entry.counts (col row.entry.numbers.now) row.entry.tag row.entry.at }
+    ensures { result ≡ named row.entry.tables.counts (col row.entry.tables.numbers.now) row.entry.tag row.entry.at }
 {
-    names_of(row.tag).iter().all(|name| lists(
-        row.counts,
-        row.numbers,
-        name.tag,
-        row.at + name.place,
-    ))
+    names_of(row.tag)
+        .iter()
+        .all(|name| lists(row.tables, name.tag, row.at + name.place))
 }

@@ -9,6 +9,7 @@ mod field;
 mod keys;
 mod mdqs;
 mod row;
+mod tables;
 
 ghost use Rattle.std.specs.Prelude.{◌≡◌};
 ghost use Rattle.columns.specs.Column.{col};
@@ -18,11 +19,12 @@ use crate::caps::is_capped;
 use crate::keys::{is_named, rises};
 use crate::mdqs::is_starved;
 pub use bounds::{is_bounded, is_within, number_of};
-use dayformat::{Counts, Tag, count_of, form_of};
+use dayformat::{Tag, count_of, form_of};
 pub use fault::Fault;
 pub use field::breaks;
 pub use mdqs::is_idle;
 pub use row::{Row, row_of};
+pub use tables::Tables;
 
 // Where rows stand: in a day's file or block, or in a list of the entries of one side. No closure: `passes` and `fault` speak of it.
 #[derive(Clone, Copy)]
@@ -41,56 +43,50 @@ pub enum Test {
 
 // The first of 3, 5 and 4 that a row is refused by.
 #[tactic(auto, unfolding(crate::specs::Test::fault), using(crate::proofs::Faults::mdq_any))]
-pub fn row_fault(
-    source: Source,
-    counts: Counts,
-    numbers: &[usize],
-    tag: Tag,
-    row: u32,
-) -> Result<(), Fault>
-    ensures { result ≡ fault source counts (col numbers.now) tag row }
+pub fn row_fault(source: Source, tables: Tables, tag: Tag, row: u32) -> Result<(), Fault>
+    ensures { result ≡ fault source tables.entry.counts (col tables.entry.numbers.now) tag row }
 {
-    if !keeps_bounds(source, counts, numbers, tag, row) {
+    if !keeps_bounds(source, tables, tag, row) {
         return Err(Fault::Beyond);
     }
-    if !keeps_key(source, counts, numbers, tag, row) {
+    if !keeps_key(source, tables, tag, row) {
         return Err(Fault::Key);
     }
-    if !keeps_mdq(counts, numbers, tag, row) {
+    if !keeps_mdq(tables, tag, row) {
         return Err(Fault::Mdq);
     }
     Ok(())
 }
 
 // 3: a row too many, a number beyond its bound or its cap, an entry of the other side.
-fn keeps_bounds(source: Source, counts: Counts, numbers: &[usize], tag: Tag, row: u32) -> bool
-    ensures { result ≡ passes Test.Bounds source counts (col numbers.now) tag row }
+fn keeps_bounds(source: Source, tables: Tables, tag: Tag, row: u32) -> bool
+    ensures { result ≡ passes Test.Bounds source tables.entry.counts (col tables.entry.numbers.now) tag row }
 {
     if form_of(tag).most <= row {
         return false;
     }
-    let row = row_of(counts, numbers, tag, row);
+    let row = row_of(tables, tag, row);
     is_bounded(row) && is_of_source(source, row)
 }
 
 fn is_of_source(source: Source, row: Row) -> bool
-    ensures { result ≡ of_source source row.entry.counts (col row.entry.numbers.now) row.entry.tag row.entry.at }
+    ensures { result ≡ of_source source row.entry.tables.counts (col row.entry.tables.numbers.now) row.entry.tag row.entry.at }
 {
     match source {
         Source::File => is_capped(row),
-        Source::Side(side) => number_of(row.numbers, row.at) == side,
+        Source::Side(side) => number_of(row.tables.numbers, row.at) == side,
     }
 }
 
 // 5: a key that does not rise, or names something not listed.
-fn keeps_key(source: Source, counts: Counts, numbers: &[usize], tag: Tag, row: u32) -> bool
-    ensures { result ≡ passes Test.Key source counts (col numbers.now) tag row }
+fn keeps_key(source: Source, tables: Tables, tag: Tag, row: u32) -> bool
+    ensures { result ≡ passes Test.Key source tables.entry.counts (col tables.entry.numbers.now) tag row }
 {
-    rises(counts, numbers, tag, row) && names_are_known(source, row_of(counts, numbers, tag, row))
+    rises(tables, tag, row) && names_are_known(source, row_of(tables, tag, row))
 }
 
 fn names_are_known(source: Source, row: Row) -> bool
-    ensures { result ≡ names_known source row.entry.counts (col row.entry.numbers.now) row.entry.tag row.entry.at }
+    ensures { result ≡ names_known source row.entry.tables.counts (col row.entry.tables.numbers.now) row.entry.tag row.entry.at }
 {
     match source {
         Source::File => is_named(row),
@@ -99,29 +95,29 @@ fn names_are_known(source: Source, row: Row) -> bool
 }
 
 // 4: a schedule without its MDQ.
-fn keeps_mdq(counts: Counts, numbers: &[usize], tag: Tag, row: u32) -> bool
-    ensures { result ≡ passes Test.Mdq Source.File counts (col numbers.now) tag row }
+fn keeps_mdq(tables: Tables, tag: Tag, row: u32) -> bool
+    ensures { result ≡ passes Test.Mdq Source.File tables.entry.counts (col tables.entry.numbers.now) tag row }
 {
-    !is_starved(row_of(counts, numbers, tag, row))
+    !is_starved(row_of(tables, tag, row))
 }
 
 // Whether a row of a day passes a test.
-fn row_passes(test: Test, counts: Counts, numbers: &[usize], tag: Tag, row: u32) -> bool
-    ensures { result ≡ passes test Source.File counts (col numbers.now) tag row }
+fn row_passes(test: Test, tables: Tables, tag: Tag, row: u32) -> bool
+    ensures { result ≡ passes test Source.File tables.entry.counts (col tables.entry.numbers.now) tag row }
 {
     match test {
-        Test::Bounds => keeps_bounds(Source::File, counts, numbers, tag, row),
-        Test::Key => keeps_key(Source::File, counts, numbers, tag, row),
-        Test::Mdq => keeps_mdq(counts, numbers, tag, row),
+        Test::Bounds => keeps_bounds(Source::File, tables, tag, row),
+        Test::Key => keeps_key(Source::File, tables, tag, row),
+        Test::Mdq => keeps_mdq(tables, tag, row),
     }
 }
 
 // The lowest row of a day's table that fails a test, or the number of rows.
-pub fn first_failing_row(test: Test, counts: Counts, numbers: &[usize], tag: Tag) -> u32
-    ensures { result ≡ first_failing test counts (col numbers.now) tag }
+pub fn first_failing_row(test: Test, tables: Tables, tag: Tag) -> u32
+    ensures { result ≡ first_failing test tables.entry.counts (col tables.entry.numbers.now) tag }
 {
-    let rows = count_of(counts, tag);
+    let rows = count_of(tables.counts, tag);
     (0..rows)
-        .find(|row| !row_passes(test, counts, numbers, tag, *row))
+        .find(|row| !row_passes(test, tables, tag, *row))
         .unwrap_or(rows)
 }

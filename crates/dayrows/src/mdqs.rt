@@ -17,10 +17,10 @@ pub fn is_idle(mdq: usize, schedule: usize) -> bool
 
 // Whether a row has a schedule without its MDQ.
 pub fn is_starved(row: Row) -> bool
-    ensures { result ≡ starved (col row.entry.numbers.now) row.entry.tag row.entry.at }
+    ensures { result ≡ starved (col row.entry.tables.numbers.now) row.entry.tag row.entry.at }
 {
     mdqs_of(row.tag).iter().any(|pair| {
-        let mdq = number_of(row.numbers, row.at + pair.mdq);
-        is_idle(mdq, number_of(row.numbers, row.at + pair.schedule))
+        let mdq = number_of(row.tables.numbers, row.at + pair.mdq);
+        is_idle(mdq, number_of(row.tables.numbers, row.at + pair.schedule))
     })
 }

@@ -2,28 +2,26 @@
 ghost use Rattle.std.specs.Prelude.{◌≡◌, ◌^◌, ◌<◌};
 ghost use Rattle.dayformat.specs.Layout.{row_start};
 
-use dayformat::{Counts, Tag, row_place};
+use crate::tables::Tables;
+use dayformat::{Tag, row_place};
 
 #[derive(Clone, Copy)]
 pub struct Row<'a> {
-    pub counts: Counts,
-    pub numbers: &'a [usize],
+    pub tables: Tables<'a>,
     pub tag: Tag,
     pub at: usize,
     pub ghost near: { at < 2 ^ 40 },
 }
 
 // The row that stands so many rows into its table.
-pub fn row_of(counts: Counts, numbers: &[usize], tag: Tag, row: u32) -> Row
-    ensures counted { result.counts ≡ counts }
-    ensures among { result.numbers.now ≡ numbers.now }
+pub fn row_of(tables: Tables, tag: Tag, row: u32) -> Row
+    ensures among { result.tables ≡ tables.entry }
     ensures tagged { result.tag ≡ tag }
-    ensures begins { result.at ≡ row_start counts tag row }
+    ensures begins { result.at ≡ row_start tables.entry.counts tag row }
 {
     Row {
-        counts,
-        numbers,
+        tables,
         tag,
-        at: row_place(counts, tag, row),
+        at: row_place(tables.counts, tag, row),
     }
 }

@@ -8,9 +8,11 @@ mod lists;
 mod round;
 
 ghost use Rattle.std.specs.Prelude.{◌≡◌};
+ghost use Rattle.daytable.specs.Table.{contents};
 ghost use Rattle.dayshares.specs.Firm.{free_flow_mdq};
 ghost use Rattle.dayshares.specs.Answer.{SharesAnswered};
 
+use daytable::DayTable;
 use units::{Gigajoules, Refusal};
 
 // The levels of a day's five rounds; 0 for a round not held.
@@ -42,53 +44,16 @@ pub fn free_flow_mdq(mdq: Gigajoules) -> Gigajoules
 
 // 01, "A day's shares": each class's shares go to the front of its lent list; a refusal leaves all three as they were.
 pub fn share_day(
-    free_flow: Gigajoules,
-    compressor: Gigajoules,
-    firm_mdq: &[u32],
-    auction_mdq: &[u32],
-    firm_schedule: &[u32],
-    auction_schedule: &[u32],
-    lower_tier_schedule: &[u32],
+    table: &DayTable,
     firm: &mut [u32],
     auction: &mut [u32],
     lower_tier: &mut [u32],
 ) -> Result<Shares, Refusal>
-    ensures { SharesAnswered
-        (record {
-          free_flow = free_flow.0;
-          compressor = compressor.0;
-          firm_mdq = firm_mdq.now;
-          auction_mdq = auction_mdq.now;
-          firm_schedule = firm_schedule.now;
-          auction_schedule = auction_schedule.now;
-          lower_tier_schedule = lower_tier_schedule.now;
-        })
+    ensures { SharesAnswered (contents table.now)
         firm.old auction.old lower_tier.old
         result
         firm.new auction.new lower_tier.new }
 {
-    daytable::examine_day(
-        free_flow,
-        compressor,
-        firm_mdq,
-        auction_mdq,
-        firm_schedule,
-        auction_schedule,
-        lower_tier_schedule,
-        firm.len(),
-        auction.len(),
-        lower_tier.len(),
-    )?;
-    Ok(accepted::share_accepted(
-        free_flow.0,
-        compressor.0,
-        firm_mdq,
-        auction_mdq,
-        firm_schedule,
-        auction_schedule,
-        lower_tier_schedule,
-        firm,
-        auction,
-        lower_tier,
-    ))
+    table.examine(firm.len(), auction.len(), lower_tier.len())?;
+    Ok(accepted::share_accepted(table, firm, auction, lower_tier))
 }

@@ -8,7 +8,6 @@ use Rattle.columns.specs.Column.{col}
 use Rattle.units.specs.Verdict.{of_check, Decided}
 use Rattle.units.proofs.Verdicts.{AllNumbered, none, ◌and◌, kept_by, cleared_by, decided, checked}
 use Rattle.dayformat.specs.declared.form.Tag.{Tag}
-use Rattle.dayformat.specs.declared.form.Tag.TheVariants as Tag
 use Rattle.dayformat.specs.declared.layout.Counts.{Counts}
 use Rattle.dayformat.specs.Layout.{count}
 use Rattle.dayformat.proofs.Decided.{counts_numbered}

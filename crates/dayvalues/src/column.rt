@@ -5,7 +5,8 @@ ghost use Rattle.dayvalues.specs.Column.{place_of, first_beyond, column_check, w
 ghost use Rattle.dayvalues.specs.Private.{Fillable};
 
 use crate::row::{is_beyond, number_at};
-use dayformat::{Counts, Tag, numbers_of};
+use dayformat::{Tag, numbers_of};
+use dayrows::Tables;
 use units::{Refusal, clear, keep};
 
 // In tag 2's order.
@@ -32,62 +33,57 @@ fn place_of(which: ShipperColumn) -> u32
 }
 
 // The lowest row whose number at a place is beyond its bounds, or the number of rows.
-fn first_beyond(counts: Counts, numbers: &[usize], place: u32) -> u32
-    ensures { result ≡ first_beyond counts (col numbers.now) place }
+fn first_beyond(tables: Tables, place: u32) -> u32
+    ensures { result ≡ first_beyond tables.entry.counts (col tables.entry.numbers.now) place }
 {
-    let rows = counts.shippers;
+    let rows = tables.counts.shippers;
     (0..rows)
-        .find(|row| is_beyond(counts, numbers, Tag::Shipper, *row, place))
+        .find(|row| is_beyond(tables, Tag::Shipper, *row, place))
         .unwrap_or(rows)
 }
 
 // The first test that a column fails, with room for so many rows. The rows are looked at where there are few.
 #[tactic(auto, unfolding(crate::specs::Column::column_check, units::specs::Refusals::first_refusal))]
-fn examine_column(counts: Counts, numbers: &[usize], place: u32, room: usize) -> Result<(), Refusal>
-    ensures { result ≡ column_check counts numbers.now place room }
+fn examine_column(tables: Tables, place: u32, room: usize) -> Result<(), Refusal>
+    ensures { result ≡ column_check tables.entry.counts tables.entry.numbers.now place room }
 {
+    let Tables { counts, numbers } = tables;
     let rows = counts.shippers as usize;
     keep(numbers.len() == numbers_of(counts), 9)?;
     counts.check()?;
-    clear(rows, first_beyond(counts, numbers, place) as usize, 3)?;
+    clear(rows, first_beyond(tables, place) as usize, 3)?;
     keep(rows <= room, 7)
 }
 
 // The first test that a column fails, with room for so many rows.
-pub fn check_column(
-    counts: Counts,
-    numbers: &[usize],
-    which: ShipperColumn,
-    room: usize,
-) -> Result<(), Refusal>
-    ensures { result ≡ column_check counts numbers.now (place_of which) room }
+pub fn check_column(tables: Tables, which: ShipperColumn, room: usize) -> Result<(), Refusal>
+    ensures { result ≡ column_check tables.entry.counts tables.entry.numbers.now (place_of which) room }
 {
-    examine_column(counts, numbers, place_of(which), room)
+    examine_column(tables, place_of(which), room)
 }
 
 // Each row's number at a place to the front of a list.
-fn fill_column(counts: Counts, numbers: &[usize], place: u32, out: &mut [u32])
-    requires { Fillable counts (col numbers.now) place out.old }
-    ensures { out.new ≡ with_column counts (col numbers.now) place out.old }
+fn fill_column(tables: Tables, place: u32, out: &mut [u32])
+    requires { Fillable tables.counts (col tables.numbers.now) place out.old }
+    ensures { out.new ≡ with_column tables.entry.counts (col tables.entry.numbers.now) place out.old }
 {
-    let rows = counts.shippers;
+    let rows = tables.counts.shippers;
     // The row is what is asked for, so the loop is over rows.
     for row in 0..rows {
-        out[row as usize] = number_at(counts, numbers, Tag::Shipper, row, place) as u32;
+        out[row as usize] = number_at(tables, Tag::Shipper, row, place) as u32;
     }
 }
 
 // A column's gigajoules go to the front of `out`; a refusal leaves it as it was.
 pub fn shipper_column(
-    counts: Counts,
-    numbers: &[usize],
+    tables: Tables,
     which: ShipperColumn,
     out: &mut [u32],
 ) -> Result<usize, Refusal>
-    ensures { ColumnAnswered counts numbers.now which out.old result out.new }
+    ensures { ColumnAnswered tables.entry.counts tables.entry.numbers.now which out.old result out.new }
 {
     let place = place_of(which);
-    examine_column(counts, numbers, place, out.len())?;
-    fill_column(counts, numbers, place, out);
-    Ok(counts.shippers as usize)
+    examine_column(tables, place, out.len())?;
+    fill_column(tables, place, out);
+    Ok(tables.counts.shippers as usize)
 }

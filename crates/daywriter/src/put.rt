@@ -9,10 +9,10 @@ ghost use Rattle.dayformat.specs.DayBytes.{row_from, fields, file_of};
 
 use bigendian::put_number;
 use dayformat::{
-    Counts, Day, HEAD_FIELD, HEADER, LENGTH_WIDTH, TABLES, Tag, column_at, count_of, form_of,
-    row_place, tag_at,
+    Day, HEAD_FIELD, HEADER, LENGTH_WIDTH, TABLES, Tag, column_at, count_of, form_of, row_place,
+    tag_at,
 };
-use dayrows::number_of;
+use dayrows::{Tables, number_of};
 
 // The body of the row that begins at a place of the numbers, from a byte of the block on.
 fn put_body(tag: Tag, numbers: &[usize], from: usize, block: &mut [u8], at: usize)
@@ -41,11 +41,12 @@ fn put_field(tag: Tag, numbers: &[usize], from: usize, block: &mut [u8], at: usi
 }
 
 // The fields of one tag; answers where they end.
-fn put_fields(tag: Tag, counts: Counts, numbers: &[usize], block: &mut [u8], at: usize) -> usize
+fn put_fields(tag: Tag, tables: Tables, block: &mut [u8], at: usize) -> usize
     requires { at < 2 ^ 46 }
-    ensures { (block.new ≡ sets block.old at (fields counts (col numbers.now) tag))
-        × (result ≡ at + run_size counts tag) × (result < at + 2 ^ 41) }
+    ensures { (block.new ≡ sets block.old at (fields tables.entry.counts (col tables.entry.numbers.now) tag))
+        × (result ≡ at + run_size tables.entry.counts tag) × (result < at + 2 ^ 41) }
 {
+    let Tables { counts, numbers } = tables;
     let size = HEADER + form_of(tag).size;
     let mut byte = at;
     for row in 0..count_of(counts, tag) {
@@ -56,13 +57,13 @@ fn put_fields(tag: Tag, counts: Counts, numbers: &[usize], block: &mut [u8], at:
 }
 
 // The fields of the tables, behind the head's.
-fn put_tables(counts: Counts, numbers: &[usize], block: &mut [u8])
+fn put_tables(tables: Tables, block: &mut [u8])
     ensures { block.new ≡ sets block.old (field_size Tag.Head)
-        (joined many_tables (λ place. fields counts (col numbers.now) (tag_at place))) }
+        (joined many_tables (λ place. fields tables.entry.counts (col tables.entry.numbers.now) (tag_at place))) }
 {
     let mut at = HEAD_FIELD;
     for place in 0..TABLES {
-        at = put_fields(tag_at(place), counts, numbers, block, at);
+        at = put_fields(tag_at(place), tables, block, at);
     }
 }
 
@@ -71,11 +72,13 @@ pub fn put_day(day: Day, numbers: &[usize], block: &mut [u8])
     ensures { block.new ≡ sets block.old 0 (file_of day (col numbers.now)) }
 {
     let head = day.head;
+    let counts = day.counts;
+    let tables = Tables { counts, numbers };
     let row = [
         head.day as usize,
         head.free_flow.0 as usize,
         head.compressor.0 as usize,
     ];
     put_field(Tag::Head, &row, 0, block, 0);
-    put_tables(day.counts, numbers, block);
+    put_tables(tables, block);
 }

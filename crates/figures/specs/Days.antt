@@ -1,7 +1,7 @@
 -- 01, "Figures to check against": the days of its figures.
 use Rattle.std.specs.Prelude.{[], ◌∷◌, replicate}
 use Rattle.daytable.specs.Table.{Table}
-use Rattle.overruns.specs.Day.{ShipperDay}
+use Rattle.overruns.specs.declared.day.ShipperDay.{ShipperDay}
 use Rattle.figures.specs.Units.{gigajoules, megajoules}
 
 -- free flow 300, compressor 100; firm MDQ/schedule 400/400 and 200/60

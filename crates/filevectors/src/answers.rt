@@ -9,8 +9,8 @@ pub fn put<W: Write>(out: &mut W, figure: u64) -> Result<()> {
 
 // Figures one after another.
 pub fn put_figures<W: Write>(out: &mut W, figures: &[u64]) -> Result<()> {
-    for place in 0..figures.len() {
-        put(out, figures[place])?;
+    for figure in figures {
+        put(out, *figure)?;
     }
     Ok(())
 }
@@ -22,13 +22,8 @@ pub fn put_refusal<W: Write>(out: &mut W, refusal: Refusal) -> Result<()> {
 // Bytes in hexadecimal.
 pub fn put_bytes<W: Write>(out: &mut W, bytes: &[u8]) -> Result<()> {
     out.write_all(b" :")?;
-    for place in 0..bytes.len() {
-        put_byte(out, bytes[place])?;
+    for byte in bytes {
+        streams::print_hex(out, *byte)?;
     }
     Ok(())
-}
-
-// A cast of its own, so that the loop above asks for the index alone.
-pub fn put_byte<W: Write>(out: &mut W, byte: u8) -> Result<()> {
-    streams::print_hex(out, byte)
 }

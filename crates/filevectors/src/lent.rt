@@ -1,8 +1,7 @@
 // A lent block as it is after the call: up to its last element that is not as it was lent, then how many are kept after that one.
 ghost use Rattle.std.specs.Prelude.{◌≤◌};
 
-use crate::answers::{put, put_byte};
-use columns::lesser;
+use crate::answers::{put, put_bytes};
 use std::io::{Result, Write};
 
 // What a lent number is before the call: no answer has it.
@@ -20,8 +19,8 @@ pub const MOST_BYTES: usize = dayformat::MOST_BYTES + 1;
 pub fn put_numbers<W: Write>(out: &mut W, lent: &[usize; MOST_NUMBERS], room: usize) -> Result<()> {
     let written = written_numbers(lent, room);
     out.write_all(b" :")?;
-    for place in 0..written {
-        put_number(out, lent[place])?;
+    for number in &lent[..written] {
+        put(out, *number as u64)?;
     }
     put_kept(out, room - written)
 }
@@ -29,16 +28,8 @@ pub fn put_numbers<W: Write>(out: &mut W, lent: &[usize; MOST_NUMBERS], room: us
 // Bytes in hexadecimal.
 pub fn put_block<W: Write>(out: &mut W, lent: &[u8; MOST_BYTES], room: usize) -> Result<()> {
     let written = written_bytes(lent, room);
-    out.write_all(b" :")?;
-    for place in 0..written {
-        put_byte(out, lent[place])?;
-    }
+    put_bytes(out, &lent[..written])?;
     put_kept(out, room - written)
-}
-
-// A cast of its own, so that the loop above asks for the index alone.
-fn put_number<W: Write>(out: &mut W, number: usize) -> Result<()> {
-    put(out, number as u64)
 }
 
 fn put_kept<W: Write>(out: &mut W, count: usize) -> Result<()> {
@@ -49,19 +40,19 @@ fn put_kept<W: Write>(out: &mut W, count: usize) -> Result<()> {
 fn written_numbers(lent: &[usize; MOST_NUMBERS], room: usize) -> usize
     ensures { (result ≤ room) × (result ≤ 10721) }
 {
-    let mut written = lesser(room, MOST_NUMBERS);
-    while 0 < written && lent[written - 1] == LENT_NUMBER {
-        written -= 1;
+    let lent = &lent[..room.min(MOST_NUMBERS)];
+    match lent.iter().rposition(|number| *number != LENT_NUMBER) {
+        Some(last) => last + 1,
+        None => 0,
     }
-    written
 }
 
 fn written_bytes(lent: &[u8; MOST_BYTES], room: usize) -> usize
     ensures { (result ≤ room) × (result ≤ 40976) }
 {
-    let mut written = lesser(room, MOST_BYTES);
-    while 0 < written && lent[written - 1] == LENT_BYTE {
-        written -= 1;
+    let lent = &lent[..room.min(MOST_BYTES)];
+    match lent.iter().rposition(|byte| *byte != LENT_BYTE) {
+        Some(last) => last + 1,
+        None => 0,
     }
-    written
 }

@@ -15,13 +15,14 @@ use std::io::{Read, Result, Write};
 // No case has more words: what a large buffer holds.
 const MOST_WORDS: usize = 16_384;
 
-// A proved loop has to end, and nothing says that the input does: it counts down from a number that no run uses up.
+// A proved loop has to end, and nothing says that the input does: it takes at most so many turns as no run uses up.
 fn main(rt: HostRuntime) -> Result<()> {
     let mut input = rt.stdin();
     let mut out = rt.stdout();
-    let mut turns = u64::MAX;
-    while 0 < turns && answer_next(&mut input, &mut out)? {
-        turns -= 1;
+    for _ in 0..u64::MAX {
+        if !answer_next(&mut input, &mut out)? {
+            break;
+        }
     }
     Ok(())
 }

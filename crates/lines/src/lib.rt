@@ -1,7 +1,7 @@
 // The lines of a listing, laid into a lent block. Every input is taken: what lies past the block is dropped.
 #![tactic(auto)]
 
-ghost use Rattle.std.specs.Prelude.{[], ◌∷◌, ◌++◌, ◌+◌, ◌^◌, ◌≤◌, ◌<◌, length, take, Ok};
+ghost use Rattle.std.specs.Prelude.{ℕ, List, [], ◌∷◌, ◌++◌, ◌+◌, ◌^◌, ◌≤◌, ◌<◌, length, take, Ok};
 ghost use Rattle.text.specs.Text.{decimal, Laid};
 ghost use Rattle.lines.specs.Line.{most_figures, spaced, labelled, decimals, line, refused};
 ghost use Rattle.lines.specs.Answer.{ListingAnswered};
@@ -62,17 +62,44 @@ pub fn put_refusal(refusal: Refusal, text: &mut [u8], at: usize) -> usize
     title + put_line(&row, text, from + title)
 }
 
-// Lays the line of a refusal to the front of a lent block. It is counted before: laid from the block's end on, it changes nothing.
-pub fn refusal_line(refusal: Refusal, lent: &mut [u8]) -> Result<usize, Refusal>
-    ensures { ListingAnswered (Ok tt) (refused refusal) lent.old lent.new result }
+// A text that is laid from any place of a block on.
+pub trait Text {
+    // Its bytes.
+    ghost text: { Self → List ℕ };
+
+    // Lays it, and returns how many bytes it has.
+    fn put(&self, block: &mut [u8], at: usize) -> usize
+        requires { at ≤ length block.old }
+        ensures { Laid (text self.now) block.old at result block.new };
+}
+
+// Lays a text to the front of a lent block; 7 where it is longer. It is counted before: laid from the block's end on, it changes nothing.
+pub fn list<T: Text>(text: &T, lent: &mut [u8]) -> Result<usize, Refusal>
+    ensures { ListingAnswered (Ok tt) (T.text text.now) lent.old lent.new result }
 {
     let room = lent.len();
-    let size = put_refusal(refusal, lent, room);
+    let size = text.put(lent, room);
     if room < size {
         return Err(Refusal::plain(7));
     }
-    put_refusal(refusal, lent, 0);
+    text.put(lent, 0);
     Ok(size)
+}
+
+// A refusal's text is its line.
+impl Text for Refusal {
+    ghost text = { refused };
+
+    fn put(&self, block: &mut [u8], at: usize) -> usize {
+        put_refusal(*self, block, at)
+    }
+}
+
+// Lays the line of a refusal to the front of a lent block.
+pub fn refusal_line(refusal: Refusal, lent: &mut [u8]) -> Result<usize, Refusal>
+    ensures { ListingAnswered (Ok tt) (refused refusal) lent.old lent.new result }
+{
+    list(&refusal, lent)
 }
 
 // Lays a figure and the byte that ends it.

@@ -15,8 +15,10 @@ use Rattle.tariff.specs.declared.charges.Change.{Change}
 use Rattle.tariff.specs.Charges.{charge_verdict, variation_charge, request_charge}
 use Rattle.tariff.proofs.Most.{variation_kept, request_kept}
 use Rattle.overruns.specs.declared.day.Overruns.{Overruns}
-use Rattle.overruns.specs.Day.{ShipperDay, day_verdict}
-use Rattle.overruns.specs.Excused.{ExcusedHours, excused_day_answer}
+use Rattle.overruns.specs.declared.day.ShipperDay.{ShipperDay}
+use Rattle.overruns.specs.Day.{day_verdict}
+use Rattle.overruns.specs.declared.day.ExcusedHours.{ExcusedHours}
+use Rattle.overruns.specs.Excused.{excused_day_answer}
 use Rattle.overruns.proofs.Promises.{excused-day-kept}
 use Rattle.month.specs.declared.figures.Figures.{Figures}
 use Rattle.month.specs.declared.account.AccountDay.{AccountDay}

@@ -9,46 +9,52 @@ ghost use Rattle.month.specs.Statement.{statement_line, statement_lines, total_l
 
 use crate::account::{Account, AccountDay, MOST_DAYS};
 use crate::figures::{Figures, numbers_of};
-use lines::{put_figure, put_line, put_word};
+use lines::{Text, list, put_figure, put_line, put_word};
 use units::Refusal;
 
 // No statement is longer: 91 bytes for a day's line, 95 for that of the total.
 pub const MOST_STATEMENT: usize = MOST_DAYS * 91 + 95;
 
-// A statement at the front of a lent block; 7 exactly when it is longer than the block. Laid from the block's end on, it is only counted.
+// An account and its sums.
+#[derive(Clone, Copy)]
+struct Statement {
+    account: Account,
+    sums: Figures,
+    ghost few: { account.count ≤ most_days },
+    ghost sums_are: { sums ≡ account_sums account },
+}
+
+// A statement at the front of a lent block; 7 exactly when it is longer than the block.
 pub fn list_statement(account: Account, sums: Figures, lent: &mut [u8]) -> Result<usize, Refusal>
     requires { (account.count ≤ most_days) × (sums ≡ account_sums account) }
     ensures { ListingAnswered (Ok tt) (statement account) lent.old lent.new result }
 {
-    let room = lent.len();
-    let size = put_statement(account, sums, lent, room);
-    if room < size {
-        return Err(Refusal::plain(7));
-    }
-    put_statement(account, sums, lent, 0);
-    Ok(size)
+    list(&Statement { account, sums }, lent)
 }
 
 // The days, then the total.
-fn put_statement(account: Account, sums: Figures, text: &mut [u8], at: usize) -> usize
-    requires { (account.count ≤ most_days) × (sums ≡ account_sums account) × (at ≤ length text.old) }
-    ensures { Laid (statement account) text.old at result text.new }
-{
-    let size = put_days(account, text, at);
-    size + put_total(sums, text, at + size)
+impl Text for Statement {
+    ghost text = { λ self. statement self.account };
+
+    fn put(&self, block: &mut [u8], at: usize) -> usize {
+        let size = self.put_days(block, at);
+        size + put_total(self.sums, block, at + size)
+    }
 }
 
-// A line for each day.
-fn put_days(account: Account, text: &mut [u8], at: usize) -> usize
-    requires { (account.count ≤ most_days) × (at ≤ length text.old) }
-    ensures { (Laid (statement_lines account.count (day_at account)) text.old at result text.new)
-        × (result ≤ 65536) }
-{
-    let mut size = 0;
-    for day in &account.days[..account.count] {
-        size += put_day(*day, text, at + size);
+impl Statement {
+    // A line for each day.
+    fn put_days(&self, text: &mut [u8], at: usize) -> usize
+        requires { at ≤ length text.old }
+        ensures { (Laid (statement_lines self.now.account.count (day_at self.now.account)) text.old at result text.new)
+            × (result ≤ 65536) }
+    {
+        let mut size = 0;
+        for day in &self.account.days[..self.account.count] {
+            size += put_day(*day, text, at + size);
+        }
+        size
     }
-    size
 }
 
 // A day's number, then its seven figures.

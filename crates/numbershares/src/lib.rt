@@ -10,21 +10,23 @@ ghost use Rattle.numbershares.specs.DayTable.{table_of};
 ghost use Rattle.numbershares.specs.Answer.{NumbersAnswered};
 ghost use Rattle.numbershares.specs.Private.{columns_check, early_check};
 
-use dayformat::{Counts, Day, numbers_of};
+use dayformat::{Day, numbers_of};
+use dayrows::Tables;
 use dayshares::{Shares, share_day};
+use daytable::DayTable;
 use dayvalues::{ShipperColumn, check_column, shipper_column};
 use units::{MOST_GIGAJOULES, MOST_ROWS, Refusal, keep};
 
 // The first test that one of the five columns fails, in tag 2's order.
 #[tactic(auto, unfolding(crate::specs::Private::columns_check, units::specs::Refusals::first_refusal))]
-fn check_columns(counts: Counts, numbers: &[usize]) -> Result<(), Refusal>
-    ensures { result ≡ columns_check counts numbers.now }
+fn check_columns(tables: Tables) -> Result<(), Refusal>
+    ensures { result ≡ columns_check tables.entry.counts tables.entry.numbers.now }
 {
-    check_column(counts, numbers, ShipperColumn::FirmMdq, MOST_ROWS)?;
-    check_column(counts, numbers, ShipperColumn::AuctionMdq, MOST_ROWS)?;
-    check_column(counts, numbers, ShipperColumn::FirmSchedule, MOST_ROWS)?;
-    check_column(counts, numbers, ShipperColumn::AuctionSchedule, MOST_ROWS)?;
-    check_column(counts, numbers, ShipperColumn::LowerTierSchedule, MOST_ROWS)
+    check_column(tables, ShipperColumn::FirmMdq, MOST_ROWS)?;
+    check_column(tables, ShipperColumn::AuctionMdq, MOST_ROWS)?;
+    check_column(tables, ShipperColumn::FirmSchedule, MOST_ROWS)?;
+    check_column(tables, ShipperColumn::AuctionSchedule, MOST_ROWS)?;
+    check_column(tables, ShipperColumn::LowerTierSchedule, MOST_ROWS)
 }
 
 // 9 and 3: the counts and the capacities, which are single figures, come before the rows of any column.
@@ -38,16 +40,16 @@ fn check_figures(day: Day, numbers: &[usize]) -> Result<(), Refusal>
     counts.check()?;
     keep(head.free_flow.0 <= MOST_GIGAJOULES.0, 3)?;
     keep(head.compressor.0 <= MOST_GIGAJOULES.0, 3)?;
-    check_columns(counts, numbers)
+    check_columns(Tables { counts, numbers })
 }
 
 // A column of gigajoules, zeros past its rows.
-fn column_of(counts: Counts, numbers: &[usize], which: ShipperColumn) -> [u32; MOST_ROWS]
-    requires { column_check counts numbers.now (place_of which) most_rows ≡ Ok tt }
-    ensures { result ≡ with_column counts (col numbers.now) (place_of which) (replicate most_rows 0) }
+fn column_of(tables: Tables, which: ShipperColumn) -> [u32; MOST_ROWS]
+    requires { column_check tables.counts tables.numbers.now (place_of which) most_rows ≡ Ok tt }
+    ensures { result ≡ with_column tables.entry.counts (col tables.entry.numbers.now) (place_of which) (replicate most_rows 0) }
 {
     let mut column = [0u32; MOST_ROWS];
-    shipper_column(counts, numbers, which, &mut column).unwrap();
+    shipper_column(tables, which, &mut column).unwrap();
     column
 }
 
@@ -67,24 +69,23 @@ fn share_columns(
 {
     let head = day.head;
     let counts = day.counts;
+    let tables = Tables { counts, numbers };
     let rows = counts.shippers as usize;
-    let firm_mdq = column_of(counts, numbers, ShipperColumn::FirmMdq);
-    let auction_mdq = column_of(counts, numbers, ShipperColumn::AuctionMdq);
-    let firm_schedule = column_of(counts, numbers, ShipperColumn::FirmSchedule);
-    let auction_schedule = column_of(counts, numbers, ShipperColumn::AuctionSchedule);
-    let lower_tier_schedule = column_of(counts, numbers, ShipperColumn::LowerTierSchedule);
-    share_day(
-        head.free_flow,
-        head.compressor,
-        &firm_mdq[..rows],
-        &auction_mdq[..rows],
-        &firm_schedule[..rows],
-        &auction_schedule[..rows],
-        &lower_tier_schedule[..rows],
-        firm,
-        auction,
-        lower_tier,
-    )
+    let firm_mdq = column_of(tables, ShipperColumn::FirmMdq);
+    let auction_mdq = column_of(tables, ShipperColumn::AuctionMdq);
+    let firm_schedule = column_of(tables, ShipperColumn::FirmSchedule);
+    let auction_schedule = column_of(tables, ShipperColumn::AuctionSchedule);
+    let lower_tier_schedule = column_of(tables, ShipperColumn::LowerTierSchedule);
+    let table = DayTable {
+        free_flow: head.free_flow,
+        compressor: head.compressor,
+        firm_mdq: &firm_mdq[..rows],
+        auction_mdq: &auction_mdq[..rows],
+        firm_schedule: &firm_schedule[..rows],
+        auction_schedule: &auction_schedule[..rows],
+        lower_tier_schedule: &lower_tier_schedule[..rows],
+    };
+    share_day(&table, firm, auction, lower_tier)
 }
 
 // Each class's shares go to the front of its list; a refusal leaves all three as they were.

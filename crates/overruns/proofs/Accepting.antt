@@ -17,9 +17,11 @@ use Rattle.metered.proofs.Accepting.{both-within, hours-within, rows-within, bac
 use Rattle.metered.proofs.Comparing.{compared-within, accepts-excused, accepts-excused_hours}
 use Rattle.overruns.specs.Hourly.{hourly_check}
 use Rattle.overruns.specs.Daily.{daily_check}
-use Rattle.overruns.specs.Day.{ShipperDay, Hours, day_check}
+use Rattle.overruns.specs.declared.day.ShipperDay.{ShipperDay}
+use Rattle.overruns.specs.Day.{Hours, day_check}
 use Rattle.overruns.specs.Excused.{excused_hourly_check, excused_twelve_hourly_check}
-use Rattle.overruns.specs.Excused.{ExcusedHours, hours_in, hours_compared, excused_day_check}
+use Rattle.overruns.specs.declared.day.ExcusedHours.{ExcusedHours}
+use Rattle.overruns.specs.Excused.{hours_in, hours_compared, excused_day_check}
 
 -- both sides' hours compared are within the bound of those metered
 rows-compared : (hours excused : List (List Megajoules)) → RowsWithin hours

@@ -13,10 +13,12 @@ use Rattle.metered.proofs.Decided.{rows_numbered, mdqs_numbered, sides_numbered,
 use Rattle.overruns.specs.Answers.{overrun_answer, overrun_verdict}
 use Rattle.overruns.specs.Hourly.{hourly_check}
 use Rattle.overruns.specs.Daily.{both_daily, daily_check, daily_where, daily_answer, daily_verdict}
-use Rattle.overruns.specs.Day.{ShipperDay, with_greatest, day_overruns, day_check, day_where, day_answer, day_verdict}
+use Rattle.overruns.specs.declared.day.ShipperDay.{ShipperDay}
+use Rattle.overruns.specs.Day.{with_greatest, day_overruns, day_check, day_where, day_answer, day_verdict}
 use Rattle.overruns.specs.Excused.{excused_hourly_check, excused_hourly, excused_hourly_answer}
 use Rattle.overruns.specs.Excused.{excused_twelve_hourly_check, excused_twelve_hourly, excused_twelve_hourly_answer}
-use Rattle.overruns.specs.Excused.{ExcusedHours, excused_day_check, excused_day_overruns, excused_day_answer}
+use Rattle.overruns.specs.declared.day.ExcusedHours.{ExcusedHours}
+use Rattle.overruns.specs.Excused.{excused_day_check, excused_day_overruns, excused_day_answer}
 use Rattle.overruns.specs.declared.daily.Daily.{Daily}
 use Rattle.overruns.specs.declared.day.Overruns.{Overruns}
 use Rattle.units.specs.declared.refusal.Refusal.{Refusal}

@@ -15,7 +15,8 @@ use Rattle.metered.specs.Excused.{excused_hours_check}
 use Rattle.metered.proofs.Comparing.{compared-all, accepts-nothing, zero-hours}
 use Rattle.overruns.specs.Hourly.{hourly_check, hourly_answer}
 use Rattle.overruns.specs.TwelveHourly.{twelve_hourly_check, twelve_hourly_answer}
-use Rattle.overruns.specs.Day.{ShipperDay, day_check, day_overruns, day_answer}
+use Rattle.overruns.specs.declared.day.ShipperDay.{ShipperDay}
+use Rattle.overruns.specs.Day.{day_check, day_overruns, day_answer}
 use Rattle.overruns.specs.Excused.{excused_hourly_check, excused_hourly_answer}
 use Rattle.overruns.specs.Excused.{excused_twelve_hourly_check, excused_twelve_hourly_answer}
 use Rattle.overruns.specs.Excused.{nothing_excused, excused_day_check, excused_day_overruns, excused_day_answer}

@@ -18,9 +18,11 @@ use Rattle.metered.proofs.Comparing.{compared-most}
 use Rattle.overruns.specs.declared.day.Overruns.{Overruns}
 use Rattle.overruns.specs.Answers.{overrun_verdict}
 use Rattle.overruns.specs.Daily.{both_daily, daily_check, daily_answer, daily_verdict}
-use Rattle.overruns.specs.Day.{ShipperDay, with_greatest, day_overruns, day_verdict}
+use Rattle.overruns.specs.declared.day.ShipperDay.{ShipperDay}
+use Rattle.overruns.specs.Day.{with_greatest, day_overruns, day_verdict}
 use Rattle.overruns.specs.Excused.{excused_hourly_answer, excused_twelve_hourly_answer}
-use Rattle.overruns.specs.Excused.{ExcusedHours, hours_in, excused_day_check, excused_day_overruns, excused_day_answer}
+use Rattle.overruns.specs.declared.day.ExcusedHours.{ExcusedHours}
+use Rattle.overruns.specs.Excused.{hours_in, excused_day_check, excused_day_overruns, excused_day_answer}
 use Rattle.overruns.specs.Promise.{DailyKept, DayKept}
 use Rattle.overruns.proofs.Accepting.{hourly-accepting, twelve_hourly-accepting, daily-accepting, excused-day-accepting}
 use Rattle.overruns.proofs.Days.{daily-most}

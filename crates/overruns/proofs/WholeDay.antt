@@ -14,8 +14,10 @@ use Rattle.metered.specs.Private.{Within, RowsWithin, ComparedWithin, BackhaulWi
 use Rattle.metered.proofs.Comparing.{length-compared}
 use Rattle.overruns.specs.declared.day.Overruns.{Overruns}
 use Rattle.overruns.specs.Daily.{daily}
-use Rattle.overruns.specs.Day.{ShipperDay, with_greatest}
-use Rattle.overruns.specs.Excused.{ExcusedHours, excused_hourly, excused_day_check, excused_day_answer}
+use Rattle.overruns.specs.declared.day.ShipperDay.{ShipperDay}
+use Rattle.overruns.specs.Day.{with_greatest}
+use Rattle.overruns.specs.declared.day.ExcusedHours.{ExcusedHours}
+use Rattle.overruns.specs.Excused.{excused_hourly, excused_day_check, excused_day_answer}
 use Rattle.overruns.proofs.Accepting.{excused-day-accepting}
 use Rattle.units.specs.Refusals.{Check}
 

@@ -13,8 +13,10 @@ use Rattle.excesses.specs.TwelveHourly.{period_limit}
 use Rattle.metered.specs.Hours.{hours_check}
 use Rattle.metered.specs.Singles.{mdqs_check, side_check, sides_check}
 use Rattle.metered.specs.Excused.{excused_hours_check}
-use Rattle.overruns.specs.Day.{ShipperDay, with_greatest, day_check}
-use Rattle.overruns.specs.Excused.{ExcusedHours, nothing_excused, excused_day_check, excused_day_answer}
+use Rattle.overruns.specs.declared.day.ShipperDay.{ShipperDay}
+use Rattle.overruns.specs.Day.{with_greatest, day_check}
+use Rattle.overruns.specs.declared.day.ExcusedHours.{ExcusedHours}
+use Rattle.overruns.specs.Excused.{nothing_excused, excused_day_check, excused_day_answer}
 
 abbrev megajoules : ℕ → Megajoules
 megajoules figure = record { 0 = figure }

@@ -12,20 +12,12 @@ use Rattle.excesses.specs.Greatest.{greatest}
 use Rattle.metered.specs.declared.Side.{Side}
 use Rattle.metered.specs.Singles.{mdqs_check, sides_check}
 use Rattle.metered.specs.Hours.{bare_hours, delivered, received, hours_check}
+use Rattle.overruns.specs.declared.day.ShipperDay.{ShipperDay}
 use Rattle.overruns.specs.declared.day.Overruns.{Overruns}
 use Rattle.overruns.specs.Daily.{daily}
 use Rattle.units.specs.declared.refusal.Refusal.{Refusal}
 
--- a shipper's day: the figures of a tag 5 field, both sides' hours as two rows, delivered first
-pub record ShipperDay : Type 0 where
-  pub p : Gigajoules
-  pub m : Gigajoules
-  pub yesterday : List Megajoules
-  pub hours : List (List Megajoules)
-  pub receipt : Side
-  pub delivery : Side
-
--- its hours: 35 delivered ones of both days, yesterday's 11 first, and today's 24 of each side
+-- a day's hours: 35 delivered ones of both days, yesterday's 11 first, and today's 24 of each side
 pub record Hours : Type 0 where
   pub both_days : List ℕ
   pub delivered : List ℕ

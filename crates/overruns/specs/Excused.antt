@@ -14,7 +14,9 @@ use Rattle.metered.specs.Excused.{excused_check, excused_hours_check, compared}
 use Rattle.overruns.specs.declared.day.Overruns.{Overruns}
 use Rattle.overruns.specs.Answers.{overrun_answer}
 use Rattle.overruns.specs.Hourly.{hourly_check}
-use Rattle.overruns.specs.Day.{ShipperDay, Hours, hours_of, overruns, day_check, day_where}
+use Rattle.overruns.specs.declared.day.ExcusedHours.{ExcusedHours}
+use Rattle.overruns.specs.declared.day.ShipperDay.{ShipperDay}
+use Rattle.overruns.specs.Day.{Hours, hours_of, overruns, day_check, day_where}
 use Rattle.units.specs.declared.refusal.Refusal.{Refusal}
 
 -- ---- the hourly overrun
@@ -47,11 +49,6 @@ excused_twelve_hourly_answer p m hours excused =
     overrun_answer (excused_twelve_hourly_check p m hours excused) (excused_twelve_hourly p m hours excused)
 
 -- ---- all four of a shipper's day
--- its excused hours: yesterday's 11, and both sides' as two rows, delivered first
-pub record ExcusedHours : Type 0 where
-  pub yesterday : List Megajoules
-  pub hours : List (List Megajoules)
-
 abbrev pub nothing_excused : ExcusedHours
 nothing_excused = record { yesterday = no_hours 11; hours = no_sides }
 

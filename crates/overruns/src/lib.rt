@@ -8,6 +8,6 @@ mod hourly;
 mod twelve_hourly;
 
 pub use daily::{Daily, daily_overruns};
-pub use day::{Overruns, metered_overruns, overruns_of_day};
+pub use day::{ExcusedHours, Overruns, ShipperDay, metered_overruns, overruns_of_day};
 pub use hourly::hourly_overrun;
 pub use twelve_hourly::twelve_hourly_overrun;

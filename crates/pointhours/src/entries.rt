@@ -6,7 +6,8 @@ ghost use Rattle.pointhours.specs.Parts.{most_entries, most_number, entries_in, 
 ghost use Rattle.pointhours.specs.Private.{with_zeros};
 
 use bigendian::number_at;
-use dayformat::{Counts, ENTRY_FIELD, HEADER, HOUR, NAME, SIDE, Tag};
+use dayformat::{ENTRY_FIELD, HEADER, HOUR, NAME, SIDE, Tag};
+use dayrows::Tables;
 
 // How many entries a file has at most.
 pub const MOST_ENTRIES: usize = dayformat::MOST_ENTRIES as usize;
@@ -40,11 +41,11 @@ fn entitlement_in(part: &[u8], entry: usize) -> u32
 }
 
 // The firm MDQ of a shipper's row, as far as a u32 goes.
-fn firm_mdq(counts: Counts, numbers: &[usize], shipper: u32) -> u32
-    ensures { result ≡ min (firm_mdq counts (col numbers.now) shipper) most_number }
+fn firm_mdq(tables: Tables, shipper: u32) -> u32
+    ensures { result ≡ min (firm_mdq tables.entry.counts (col tables.entry.numbers.now) shipper) most_number }
 {
-    let row = dayvalues::row_beginning(counts, numbers, Tag::Shipper, shipper);
-    let mdq = dayvalues::number_at(counts, numbers, Tag::Shipper, row, 1);
+    let row = dayvalues::row_beginning(tables, Tag::Shipper, shipper);
+    let mdq = dayvalues::number_at(tables, Tag::Shipper, row, 1);
     u32::try_from(mdq).unwrap_or(u32::MAX)
 }
 
@@ -55,16 +56,16 @@ pub struct Entries {
     pub mdqs: [u32; MOST_ENTRIES],
 }
 
-pub fn read_entries(counts: Counts, numbers: &[usize], part: &[u8]) -> Entries
+pub fn read_entries(tables: Tables, part: &[u8]) -> Entries
     ensures { (result.entitlements ≡ with_zeros (entries_in part.now) (entitlement_in part.now))
-        × (result.mdqs ≡ with_zeros (entries_in part.now) (mdq_in counts (col numbers.now) part.now)) }
+        × (result.mdqs ≡ with_zeros (entries_in part.now) (mdq_in tables.entry.counts (col tables.entry.numbers.now) part.now)) }
 {
     let many = entries_in(part);
     let mut entitlements = [0u64; MOST_ENTRIES];
     let mut mdqs = [0u32; MOST_ENTRIES];
     for entry in 0..many {
         entitlements[entry] = entitlement_in(part, entry) as u64;
-        mdqs[entry] = firm_mdq(counts, numbers, shipper_in(part, entry));
+        mdqs[entry] = firm_mdq(tables, shipper_in(part, entry));
     }
     Entries { entitlements, mdqs }
 }

@@ -6,7 +6,7 @@ ghost use Rattle.pointhours.specs.HourText.{share_lines};
 ghost use Rattle.pointhours.specs.Parts.{entries_in, shipper_in, most_entries, part_lines};
 
 use crate::entries::{MOST_ENTRIES, entries_in, read_entries, shipper_in};
-use dayformat::Counts;
+use dayrows::Tables;
 use lines::{put_line, put_refusal};
 use pointshares::share_hour;
 use units::Megajoules;
@@ -29,18 +29,17 @@ fn put_shares(part: &[u8], shares: &[u64], text: &mut [u8], at: usize) -> usize
 
 // The lines of a point's entries, or the line of the point's own refusal. A place past the block's end counts as its end.
 pub fn put_hour(
-    counts: Counts,
-    numbers: &[usize],
+    tables: Tables,
     part: &[u8],
     capacity: Megajoules,
     text: &mut [u8],
     at: usize,
 ) -> usize
-    ensures { (Laid (part_lines counts (col numbers.now) part.now capacity.0)
+    ensures { (Laid (part_lines tables.entry.counts (col tables.entry.numbers.now) part.now capacity.0)
         text.old at result text.new) × (result ≤ 2 ^ 20) }
 {
     let many = entries_in(part);
-    let entries = read_entries(counts, numbers, part);
+    let entries = read_entries(tables, part);
     let mut shares = [0u64; MOST_ENTRIES];
     let shared = share_hour(
         capacity,

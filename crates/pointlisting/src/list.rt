@@ -13,7 +13,7 @@ use crate::point::put_point;
 use dayfile::read_day;
 use dayformat::{Day, MOST_NUMBERS, numbers_of};
 use entrylists::{entries_end, entries_start, first_delivery};
-use lines::{put_line, put_word};
+use lines::{Text, list, put_line, put_word};
 use units::Refusal;
 
 // Lists a day file's points: the text goes to the front of a lent block.
@@ -50,31 +50,18 @@ fn put_each(points: &Points, text: &mut [u8], at: usize) -> usize
     size
 }
 
-// The whole text: the day's line, then those of each point.
-fn put_points(points: &Points, text: &mut [u8], at: usize) -> usize
-    requires { at ≤ length text.old }
-    ensures { Laid (points_text points.now.day (col points.now.numbers.now)) text.old at result text.new }
-{
-    let head = points.day.head;
-    let size = put_day(head.day, text, at);
-    size + put_each(points, text, at + size)
-}
+// The day's line, then those of each point.
+impl<'a> Text for Points<'a> {
+    ghost text = { λ self. points_text self.day (col self.numbers.now) };
 
-// The text to the front of the block; 7 exactly when it is longer. Laid from the block's end on, it is only counted.
-fn lay_points(points: &Points, lent: &mut [u8]) -> Result<usize, Refusal>
-    ensures { ListingAnswered (Ok tt) (points_text points.now.day (col points.now.numbers.now))
-        lent.old lent.new result }
-{
-    let room = lent.len();
-    let size = put_points(points, lent, room);
-    if room < size {
-        return Err(Refusal::plain(7));
+    fn put(&self, block: &mut [u8], at: usize) -> usize {
+        let head = self.day.head;
+        let size = put_day(head.day, block, at);
+        size + put_each(self, block, at + size)
     }
-    put_points(points, lent, 0);
-    Ok(size)
 }
 
-// The listing of a day that is read out of a file. Its entries of side 1 are the delivery list.
+// A read day's listing; 7 exactly when its text is longer than the block. The file's entries of side 1 are the delivery list.
 fn list_day(day: Day, numbers: &[usize], file: &[u8], lent: &mut [u8]) -> Result<usize, Refusal>
     requires { Reads file.now day numbers.now }
     ensures { ListingAnswered (Ok tt) (points_text day (col numbers.now)) lent.old lent.new result }
@@ -90,5 +77,5 @@ fn list_day(day: Day, numbers: &[usize], file: &[u8], lent: &mut [u8]) -> Result
         receipt: &entries[..split],
         delivery: &entries[split..],
     };
-    lay_points(&points, lent)
+    list(&points, lent)
 }

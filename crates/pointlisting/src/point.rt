@@ -6,6 +6,7 @@ ghost use Rattle.pointlisting.specs.PointsText.{point_line, point_lines};
 
 use crate::day::Points;
 use dayformat::Tag;
+use dayrows::Tables;
 use dayvalues::number_at;
 use lines::{put_line, put_word};
 use pointentries::entries_of_point;
@@ -28,19 +29,14 @@ pub fn put_point(points: &Points, row: u32, text: &mut [u8], at: usize) -> usize
     ensures { (Laid (point_lines points.now.day.counts (col points.now.numbers.now) row)
         text.old at result text.new) × (result ≤ 2 ^ 21) }
 {
-    let counts = points.day.counts;
-    let numbers = points.numbers;
-    let side = number_at(counts, numbers, Tag::Point, row, 0);
-    let point = number_at(counts, numbers, Tag::Point, row, 1);
-    let capacity = number_at(counts, numbers, Tag::Point, row, 2);
+    let tables = Tables {
+        counts: points.day.counts,
+        numbers: points.numbers,
+    };
+    let side = number_at(tables, Tag::Point, row, 0);
+    let point = number_at(tables, Tag::Point, row, 1);
+    let capacity = number_at(tables, Tag::Point, row, 2);
     let size = put_title(side as u64, point as u64, capacity as u64, text, at);
     let part = entries_of_point(points.receipt, points.delivery, side as u8, point as u16);
-    size + put_hour(
-        counts,
-        numbers,
-        part,
-        Megajoules(capacity as u64),
-        text,
-        at + size,
-    )
+    size + put_hour(tables, part, Megajoules(capacity as u64), text, at + size)
 }

@@ -1,4 +1,4 @@
--- What is laid out of the shared lists is the listing's text.
+-- A sound day is shared, and what is laid out of the shared lists is the listing's text.
 use Rattle.std.specs.Prelude.{Result, Ok, Err}
 use mathlib.Core.Path.{◌≡◌, ap, ap₂, sym, ◌∙◌}
 use mathlib.Core.List.{List, ◌++◌}
@@ -23,6 +23,7 @@ use Rattle.dayvalues.specs.Shippers.{shipper_of}
 use Rattle.numbershares.specs.DayTable.{table_of}
 use Rattle.numbershares.specs.Answer.{numbers_check, NumbersAnswered}
 use Rattle.numbershares.proofs.SharesAccept.{numbers_accept}
+use Rattle.sharelisting.specs.Private.{Shared}
 use Rattle.sharelisting.specs.SharesText.{head_line, shipper_lines, shares_text}
 
 abbrev zeros : List ℕ
@@ -60,17 +61,22 @@ module _ (day : Day) (numbers : List ℕ) (S : Sound day numbers) {firm auction 
       ∙ col-sets (rows T) given zeros (omega (arith, many, S.few Shipper, long)) row
       (omega (arith, many, l))
 
-  pub text_is : (v : Shares) → answer ≡ Ok v
-      → head_line day.head.day v.firm.0 v.left.0
-      ++ shipper_lines (count day.counts Shipper) (shipper_of day.counts (col numbers)) (col firm) (col auction) (col lower_tier)
-      ≡ shares_text day (col numbers)
-  text_is v e =
+  pub shared_of : (v : Shares) → answer ≡ Ok v → Shared day numbers v firm auction lower_tier
+  shared_of v e =
       let v_is : v ≡ day_shares T = ap (λ day. (shares_verdict day).figures) (sym e ∙ shared) in
-      ap₂ (λ x y. x ++ y) (ap (λ v. head_line day.head.day v.firm.0 v.left.0) v_is)
-      (joined_same (count day.counts Shipper) _ _
-      (λ row l.
-      rw (
-        has firm (firm_given T) (H.leaves_firm ∙ rw accepted) row l,
-        has auction (auction_given T) (H.leaves_auction ∙ rw accepted) row l,
-        has lower_tier (lower_tier_given T) (H.leaves_lower_tier ∙ rw accepted) row l,
-      )))
+      record {
+        total = ap (λ v. v.firm.0) v_is;
+        rest = ap (λ v. v.left.0) v_is;
+        firm_has = has firm (firm_given T) (H.leaves_firm ∙ rw accepted);
+        auction_has = has auction (auction_given T) (H.leaves_auction ∙ rw accepted);
+        lower_tier_has = has lower_tier (lower_tier_given T) (H.leaves_lower_tier ∙ rw accepted);
+      }
+
+-- so what is laid of them is the listing's text
+pub text_is : (day : Day) (numbers : List ℕ) (v : Shares) {firm auction lower_tier : List ℕ} → Shared day numbers v firm auction lower_tier
+    → head_line day.head.day v.firm.0 v.left.0
+    ++ shipper_lines (count day.counts Shipper) (shipper_of day.counts (col numbers)) (col firm) (col auction) (col lower_tier)
+    ≡ shares_text day (col numbers)
+text_is day numbers v S =
+    ap₂ (λ x y. x ++ y) (rw (S.total, S.rest))
+    (joined_same (count day.counts Shipper) _ _ (λ row l. rw (S.firm_has row l, S.auction_has row l, S.lower_tier_has row l)))

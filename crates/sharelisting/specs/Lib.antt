@@ -1,1 +1,2 @@
 pub mod SharesText
+pub mod Private

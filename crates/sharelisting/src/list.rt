@@ -1,17 +1,16 @@
 // A day's listing of shares.
-ghost use Rattle.std.specs.Prelude.{◌++◌, ◌≤◌, length, Ok};
+ghost use Rattle.std.specs.Prelude.{Ok};
 ghost use Rattle.columns.specs.Column.{col};
-ghost use Rattle.text.specs.Text.{Laid};
 ghost use Rattle.lines.specs.Answer.{ListingAnswered};
 ghost use Rattle.dayrows.specs.Private.{Sound};
-ghost use Rattle.sharelisting.specs.SharesText.{head_line, shipper_lines, shares_text, shares_listing};
+ghost use Rattle.sharelisting.specs.SharesText.{shares_text, shares_listing};
 ghost use Rattle.dayfile.specs.File.{walked};
 ghost use Rattle.dayruns.specs.Walk.{file_check};
-ghost use Rattle.dayvalues.specs.Shippers.{shipper_of};
 
-use crate::sharestext::{put_head, put_shippers};
+use crate::sharestext::SharedDay;
 use dayfile::read_day;
 use dayformat::{Day, MOST_NUMBERS, numbers_of};
+use lines::list;
 use numbershares::share_numbers;
 use units::{MOST_ROWS, Refusal};
 
@@ -26,57 +25,7 @@ pub fn list_shares(file: &[u8], lent: &mut [u8]) -> Result<usize, Refusal>
     list_day(day, &numbers[..count], lent)
 }
 
-// The whole text: the head line, then a line for each shipper.
-fn put_shares(
-    day: Day,
-    numbers: &[usize],
-    totals: [u32; 2],
-    firm: &[u32],
-    auction: &[u32],
-    lower_tier: &[u32],
-    text: &mut [u8],
-    at: usize,
-) -> usize
-    requires { (day.counts.shippers ≤ 64) × (at ≤ length text.old) }
-    ensures { Laid
-        (head_line day.head.day (col totals 0) (col totals 1)
-        ++ shipper_lines day.counts.shippers (shipper_of day.counts (col numbers.now))
-        (col firm.now) (col auction.now) (col lower_tier.now))
-        text.old at result text.new }
-{
-    let head = day.head;
-    let counts = day.counts;
-    let size = put_head(head.day, totals[0], totals[1], text, at);
-    size + put_shippers(counts, numbers, firm, auction, lower_tier, text, at + size)
-}
-
-// The text to the front of the block; 7 exactly when it is longer. Laid from the block's end on, it is only counted.
-fn lay_shares(
-    day: Day,
-    numbers: &[usize],
-    totals: [u32; 2],
-    firm: &[u32],
-    auction: &[u32],
-    lower_tier: &[u32],
-    lent: &mut [u8],
-) -> Result<usize, Refusal>
-    requires { day.counts.shippers ≤ 64 }
-    ensures { ListingAnswered (Ok tt)
-        (head_line day.head.day (col totals 0) (col totals 1)
-        ++ shipper_lines day.counts.shippers (shipper_of day.counts (col numbers.now))
-        (col firm.now) (col auction.now) (col lower_tier.now))
-        lent.old lent.new result }
-{
-    let room = lent.len();
-    let size = put_shares(day, numbers, totals, firm, auction, lower_tier, lent, room);
-    if room < size {
-        return Err(Refusal::plain(7));
-    }
-    put_shares(day, numbers, totals, firm, auction, lower_tier, lent, 0);
-    Ok(size)
-}
-
-// A sound day's listing.
+// A sound day's listing; 7 exactly when its text is longer than the block.
 fn list_day(day: Day, numbers: &[usize], lent: &mut [u8]) -> Result<usize, Refusal>
     requires { Sound day numbers.now }
     ensures { ListingAnswered (Ok tt) (shares_text day (col numbers.now)) lent.old lent.new result }
@@ -85,6 +34,13 @@ fn list_day(day: Day, numbers: &[usize], lent: &mut [u8]) -> Result<usize, Refus
     let mut auction = [0u32; MOST_ROWS];
     let mut lower_tier = [0u32; MOST_ROWS];
     let shares = share_numbers(day, numbers, &mut firm, &mut auction, &mut lower_tier)?;
-    let totals = [shares.firm.0, shares.left.0];
-    lay_shares(day, numbers, totals, &firm, &auction, &lower_tier, lent)
+    let shared = SharedDay {
+        day,
+        numbers,
+        shares,
+        firm: &firm,
+        auction: &auction,
+        lower_tier: &lower_tier,
+    };
+    list(&shared, lent)
 }

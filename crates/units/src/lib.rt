@@ -35,7 +35,7 @@ pub struct Cents(pub u64);
 #[derive(Clone, Copy)]
 pub struct Rate(pub u32);
 
-// The one crossing between units: 1 GJ = 1,000 MJ.
+// The one crossing between units: 1 GJ = 1,000 MJ. It has its name where it is made, which a `From` would hide.
 pub fn in_megajoules(energy: Gigajoules) -> Megajoules
     ensures { result ≡ thousandfold energy }
 {
@@ -46,8 +46,5 @@ pub fn in_megajoules(energy: Gigajoules) -> Megajoules
 pub fn greater(one: Megajoules, other: Megajoules) -> Megajoules
     ensures { result.0 ≡ max one.0 other.0 }
 {
-    if one.0 < other.0 {
-        return other;
-    }
-    one
+    Megajoules(one.0.max(other.0))
 }

@@ -1,5 +1,4 @@
 // A line of the answers: 01's number and place, the figures where it is accepted, and each lent list or block whole.
-use columns::lesser;
 use std::io::{self, Write};
 use units::Refusal;
 
@@ -24,8 +23,8 @@ fn put<W: Write>(out: &mut W, figure: u64) -> io::Result<()> {
 
 // Figures one after another.
 pub fn put_figures<W: Write>(out: &mut W, figures: &[u64]) -> io::Result<()> {
-    for place in 0..figures.len() {
-        put(out, figures[place])?;
+    for figure in figures {
+        put(out, *figure)?;
     }
     Ok(())
 }
@@ -43,34 +42,24 @@ pub fn put_check<W: Write>(out: &mut W, check: Result<(), Refusal>) -> io::Resul
 
 // A lent list as it is after the call.
 pub fn put_hours<W: Write>(out: &mut W, lent: &[u64; MOST_ROWS], room: usize) -> io::Result<()> {
-    let hours = &lent[..];
     out.write_all(b" :")?;
-    put_figures(out, &hours[0..lesser(room, MOST_ROWS)])
+    put_figures(out, &lent[..room.min(MOST_ROWS)])
 }
 
 // The same of gigajoules.
 pub fn put_rows<W: Write>(out: &mut W, lent: &[u32; MOST_ROWS], room: usize) -> io::Result<()> {
     out.write_all(b" :")?;
-    for row in 0..lesser(room, MOST_ROWS) {
-        put_row(out, lent[row])?;
+    for row in &lent[..room.min(MOST_ROWS)] {
+        put(out, u64::from(*row))?;
     }
     Ok(())
-}
-
-// A cast of its own, so that the loop above asks for the index alone.
-fn put_row<W: Write>(out: &mut W, gigajoules: u32) -> io::Result<()> {
-    put(out, gigajoules as u64)
 }
 
 // The same of a block of bytes, in hexadecimal.
 pub fn put_block<W: Write>(out: &mut W, lent: &[u8; MOST_BYTES], room: usize) -> io::Result<()> {
     out.write_all(b" :")?;
-    for place in 0..lesser(room, MOST_BYTES) {
-        put_byte(out, lent[place])?;
+    for byte in &lent[..room.min(MOST_BYTES)] {
+        streams::print_hex(out, *byte)?;
     }
     Ok(())
-}
-
-fn put_byte<W: Write>(out: &mut W, byte: u8) -> io::Result<()> {
-    streams::print_hex(out, byte)
 }

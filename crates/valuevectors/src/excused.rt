@@ -4,64 +4,39 @@ use crate::case::word;
 use crate::meters::{put_today, put_yesterday};
 use crate::rows::put_shipper;
 use columns::lesser;
-use dayformat::Counts;
+use dayrows::Tables;
 use std::io::{Result, Write};
 
 // No shipper is greater.
 const MOST_SHIPPER: usize = 65_535;
 
-pub fn answer_check<W: Write>(
-    out: &mut W,
-    counts: Counts,
-    numbers: &[usize],
-    given: &[u8],
-) -> Result<()> {
-    let check = daymeters::check_excused(counts, numbers, word(given, 0));
+pub fn answer_check<W: Write>(out: &mut W, tables: Tables, given: &[u8]) -> Result<()> {
+    let check = daymeters::check_excused(tables, word(given, 0));
     out.write_all(b"check_excused")?;
     put_check(out, check)
 }
 
-pub fn answer_shipper<W: Write>(
-    out: &mut W,
-    counts: Counts,
-    numbers: &[usize],
-    given: &[u8],
-) -> Result<()> {
-    let row = daymeters::excused_shipper(counts, numbers, word(given, 0));
+pub fn answer_shipper<W: Write>(out: &mut W, tables: Tables, given: &[u8]) -> Result<()> {
+    let row = daymeters::excused_shipper(tables, word(given, 0));
     out.write_all(b"excused_shipper")?;
     put_shipper(out, row)
 }
 
-pub fn answer_row<W: Write>(
-    out: &mut W,
-    counts: Counts,
-    numbers: &[usize],
-    given: &[u8],
-) -> Result<()> {
+pub fn answer_row<W: Write>(out: &mut W, tables: Tables, given: &[u8]) -> Result<()> {
     let shipper = lesser(word(given, 0) as usize, MOST_SHIPPER) as u16;
-    let row = daymeters::excused_row(counts, numbers, shipper);
+    let row = daymeters::excused_row(tables, shipper);
     out.write_all(b"excused_row")?;
     put_figures(out, &[0, 0, row as u64])
 }
 
-pub fn answer_yesterday<W: Write>(
-    out: &mut W,
-    counts: Counts,
-    numbers: &[usize],
-    given: &[u8],
-) -> Result<()> {
-    let hours = daymeters::excused_yesterday(counts, numbers, word(given, 0));
+pub fn answer_yesterday<W: Write>(out: &mut W, tables: Tables, given: &[u8]) -> Result<()> {
+    let hours = daymeters::excused_yesterday(tables, word(given, 0));
     out.write_all(b"excused_yesterday")?;
     put_yesterday(out, hours)
 }
 
-pub fn answer_hours<W: Write>(
-    out: &mut W,
-    counts: Counts,
-    numbers: &[usize],
-    given: &[u8],
-) -> Result<()> {
-    let hours = daymeters::excused_hours(counts, numbers, word(given, 0));
+pub fn answer_hours<W: Write>(out: &mut W, tables: Tables, given: &[u8]) -> Result<()> {
+    let hours = daymeters::excused_hours(tables, word(given, 0));
     out.write_all(b"excused_hours")?;
     put_today(out, hours)
 }

@@ -14,18 +14,20 @@ use case::{past, word};
 use columns::lesser;
 use day::{day_of, length_of, numbers_of, past_day};
 use dayformat::Day;
+use dayrows::Tables;
 use std::io::{Read, Result, Write};
 
 // No case has more words: what a large buffer holds.
 const MOST_WORDS: usize = 16_384;
 
-// A proved loop has to end, and nothing says that the input does: it counts down from a number that no run uses up.
+// A proved loop has to end, and nothing says that the input does: it takes at most so many turns as no run uses up.
 fn main(rt: HostRuntime) -> Result<()> {
     let mut input = rt.stdin();
     let mut out = rt.stdout();
-    let mut turns = u64::MAX;
-    while 0 < turns && answer_next(&mut input, &mut out)? {
-        turns -= 1;
+    for _ in 0..u64::MAX {
+        if !answer_next(&mut input, &mut out)? {
+            break;
+        }
     }
     Ok(())
 }
@@ -78,25 +80,26 @@ fn answer_numbers<W: Write>(
     given: &[u8],
 ) -> Result<()> {
     let counts = day.counts;
+    let tables = Tables { counts, numbers };
     match routine {
-        1 => rows::answer_number(out, counts, numbers, given),
-        2 => rows::answer_row(out, counts, numbers, given),
-        3 => rows::answer_shipper(out, counts, numbers, given),
-        4 => rows::answer_point(out, counts, numbers, given),
-        5 => shippers::answer_check(out, counts, numbers, given),
-        6 => shippers::answer_column(out, counts, numbers, given),
+        1 => rows::answer_number(out, tables, given),
+        2 => rows::answer_row(out, tables, given),
+        3 => rows::answer_shipper(out, tables, given),
+        4 => rows::answer_point(out, tables, given),
+        5 => shippers::answer_check(out, tables, given),
+        6 => shippers::answer_column(out, tables, given),
         7 => shippers::answer_shares(out, day, numbers, given),
-        8 => meters::answer_check(out, counts, numbers, given),
-        9 => meters::answer_figures(out, counts, numbers, given),
-        10 => meters::answer_yesterday(out, counts, numbers, given),
-        11 => meters::answer_hours(out, counts, numbers, given),
-        12 => meters::answer_delivered(out, counts, numbers, given),
-        13 => texts::answer_hour(out, counts, numbers, given),
-        15 => excused::answer_check(out, counts, numbers, given),
-        16 => excused::answer_shipper(out, counts, numbers, given),
-        17 => excused::answer_row(out, counts, numbers, given),
-        18 => excused::answer_yesterday(out, counts, numbers, given),
-        19 => excused::answer_hours(out, counts, numbers, given),
+        8 => meters::answer_check(out, tables, given),
+        9 => meters::answer_figures(out, tables, given),
+        10 => meters::answer_yesterday(out, tables, given),
+        11 => meters::answer_hours(out, tables, given),
+        12 => meters::answer_delivered(out, tables, given),
+        13 => texts::answer_hour(out, tables, given),
+        15 => excused::answer_check(out, tables, given),
+        16 => excused::answer_shipper(out, tables, given),
+        17 => excused::answer_row(out, tables, given),
+        18 => excused::answer_yesterday(out, tables, given),
+        19 => excused::answer_hours(out, tables, given),
         _ => Ok(()),
     }
 }

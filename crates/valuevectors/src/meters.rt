@@ -2,30 +2,20 @@
 use crate::answers::{LENT_HOUR, MOST_ROWS, put_check, put_figures, put_hours, put_refusal};
 use crate::case::word;
 use columns::lesser;
-use dayformat::Counts;
 use daymeters::MeterFigures;
+use dayrows::Tables;
 use metered::Side;
 use std::io::{Result, Write};
 use units::Megajoules;
 
-pub fn answer_check<W: Write>(
-    out: &mut W,
-    counts: Counts,
-    numbers: &[usize],
-    given: &[u8],
-) -> Result<()> {
-    let check = daymeters::check_meter(counts, numbers, word(given, 0));
+pub fn answer_check<W: Write>(out: &mut W, tables: Tables, given: &[u8]) -> Result<()> {
+    let check = daymeters::check_meter(tables, word(given, 0));
     out.write_all(b"check_meter")?;
     put_check(out, check)
 }
 
-pub fn answer_figures<W: Write>(
-    out: &mut W,
-    counts: Counts,
-    numbers: &[usize],
-    given: &[u8],
-) -> Result<()> {
-    let row = daymeters::meter_figures(counts, numbers, word(given, 0));
+pub fn answer_figures<W: Write>(out: &mut W, tables: Tables, given: &[u8]) -> Result<()> {
+    let row = daymeters::meter_figures(tables, word(given, 0));
     out.write_all(b"meter_figures")?;
     match row {
         Err(refusal) => put_refusal(out, refusal),
@@ -59,13 +49,8 @@ fn put_side<W: Write>(out: &mut W, side: Side) -> Result<()> {
     )
 }
 
-pub fn answer_yesterday<W: Write>(
-    out: &mut W,
-    counts: Counts,
-    numbers: &[usize],
-    given: &[u8],
-) -> Result<()> {
-    let hours = daymeters::meter_yesterday(counts, numbers, word(given, 0));
+pub fn answer_yesterday<W: Write>(out: &mut W, tables: Tables, given: &[u8]) -> Result<()> {
+    let hours = daymeters::meter_yesterday(tables, word(given, 0));
     out.write_all(b"meter_yesterday")?;
     put_yesterday(out, hours)
 }
@@ -77,13 +62,8 @@ pub fn put_yesterday<W: Write>(out: &mut W, hours: [Megajoules; 11]) -> Result<(
     put_figures(out, &figures[0..11])
 }
 
-pub fn answer_hours<W: Write>(
-    out: &mut W,
-    counts: Counts,
-    numbers: &[usize],
-    given: &[u8],
-) -> Result<()> {
-    let hours = daymeters::meter_hours(counts, numbers, word(given, 0));
+pub fn answer_hours<W: Write>(out: &mut W, tables: Tables, given: &[u8]) -> Result<()> {
+    let hours = daymeters::meter_hours(tables, word(given, 0));
     out.write_all(b"meter_hours")?;
     put_today(out, hours)
 }
@@ -94,15 +74,10 @@ pub fn put_today<W: Write>(out: &mut W, hours: [[Megajoules; 24]; 2]) -> Result<
     put_figures(out, &metered::bare_hours(hours[1]))
 }
 
-pub fn answer_delivered<W: Write>(
-    out: &mut W,
-    counts: Counts,
-    numbers: &[usize],
-    given: &[u8],
-) -> Result<()> {
+pub fn answer_delivered<W: Write>(out: &mut W, tables: Tables, given: &[u8]) -> Result<()> {
     let mut lent = [LENT_HOUR; MOST_ROWS];
     let room = lesser(word(given, 1) as usize, MOST_ROWS);
-    let check = daymeters::meter_delivered(counts, numbers, word(given, 0), &mut lent[0..room]);
+    let check = daymeters::meter_delivered(tables, word(given, 0), &mut lent[0..room]);
     out.write_all(b"meter_delivered")?;
     put_check(out, check)?;
     put_hours(out, &lent, room)

@@ -1,7 +1,8 @@
 // A number of a day, a row's tests, a shipper, a point.
 use crate::answers::{put_check, put_figures, put_refusal};
 use crate::case::word;
-use dayformat::{Counts, Tag};
+use dayformat::Tag;
+use dayrows::Tables;
 use std::io::{self, Write};
 use units::Refusal;
 
@@ -16,37 +17,22 @@ fn tag_of(tag: u32) -> Tag {
     }
 }
 
-pub fn answer_number<W: Write>(
-    out: &mut W,
-    counts: Counts,
-    numbers: &[usize],
-    given: &[u8],
-) -> io::Result<()> {
+pub fn answer_number<W: Write>(out: &mut W, tables: Tables, given: &[u8]) -> io::Result<()> {
     let tag = tag_of(word(given, 0));
-    let number = dayvalues::number_at(counts, numbers, tag, word(given, 1), word(given, 2));
+    let number = dayvalues::number_at(tables, tag, word(given, 1), word(given, 2));
     out.write_all(b"number_at")?;
     put_figures(out, &[0, 0, number as u64])
 }
 
-pub fn answer_row<W: Write>(
-    out: &mut W,
-    counts: Counts,
-    numbers: &[usize],
-    given: &[u8],
-) -> io::Result<()> {
+pub fn answer_row<W: Write>(out: &mut W, tables: Tables, given: &[u8]) -> io::Result<()> {
     let tag = tag_of(word(given, 0));
-    let check = dayvalues::check_row(counts, numbers, tag, word(given, 1));
+    let check = dayvalues::check_row(tables, tag, word(given, 1));
     out.write_all(b"check_row")?;
     put_check(out, check)
 }
 
-pub fn answer_shipper<W: Write>(
-    out: &mut W,
-    counts: Counts,
-    numbers: &[usize],
-    given: &[u8],
-) -> io::Result<()> {
-    let row = dayvalues::shipper_at(counts, numbers, word(given, 0));
+pub fn answer_shipper<W: Write>(out: &mut W, tables: Tables, given: &[u8]) -> io::Result<()> {
+    let row = dayvalues::shipper_at(tables, word(given, 0));
     out.write_all(b"shipper_at")?;
     put_shipper(out, row)
 }
@@ -58,13 +44,8 @@ pub fn put_shipper<W: Write>(out: &mut W, row: Result<u16, Refusal>) -> io::Resu
     }
 }
 
-pub fn answer_point<W: Write>(
-    out: &mut W,
-    counts: Counts,
-    numbers: &[usize],
-    given: &[u8],
-) -> io::Result<()> {
-    let row = dayvalues::point_at(counts, numbers, word(given, 0));
+pub fn answer_point<W: Write>(out: &mut W, tables: Tables, given: &[u8]) -> io::Result<()> {
+    let row = dayvalues::point_at(tables, word(given, 0));
     out.write_all(b"point_at")?;
     match row {
         Err(refusal) => put_refusal(out, refusal),

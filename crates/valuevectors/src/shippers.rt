@@ -2,7 +2,7 @@
 use crate::answers::{LENT_ROW, MOST_ROWS, put_check, put_figures, put_refusal, put_rows};
 use crate::case::{wide, word};
 use columns::lesser;
-use dayformat::Counts;
+use dayrows::Tables;
 use dayshares::Shares;
 use dayvalues::ShipperColumn;
 use std::io::{Result, Write};
@@ -18,29 +18,19 @@ fn column_of(place: u32) -> ShipperColumn {
     }
 }
 
-pub fn answer_check<W: Write>(
-    out: &mut W,
-    counts: Counts,
-    numbers: &[usize],
-    given: &[u8],
-) -> Result<()> {
+pub fn answer_check<W: Write>(out: &mut W, tables: Tables, given: &[u8]) -> Result<()> {
     let column = column_of(word(given, 0));
     let room = wide(word(given, 1), word(given, 2));
-    let check = dayvalues::check_column(counts, numbers, column, room);
+    let check = dayvalues::check_column(tables, column, room);
     out.write_all(b"check_column")?;
     put_check(out, check)
 }
 
-pub fn answer_column<W: Write>(
-    out: &mut W,
-    counts: Counts,
-    numbers: &[usize],
-    given: &[u8],
-) -> Result<()> {
+pub fn answer_column<W: Write>(out: &mut W, tables: Tables, given: &[u8]) -> Result<()> {
     let mut lent = [LENT_ROW; MOST_ROWS];
     let column = column_of(word(given, 0));
     let room = lesser(word(given, 1) as usize, MOST_ROWS);
-    let listed = dayvalues::shipper_column(counts, numbers, column, &mut lent[0..room]);
+    let listed = dayvalues::shipper_column(tables, column, &mut lent[0..room]);
     out.write_all(b"shipper_column")?;
     match listed {
         Err(refusal) => put_refusal(out, refusal)?,

@@ -2,22 +2,17 @@
 use crate::answers::{LENT_BYTE, MOST_BYTES, put_block, put_figures, put_refusal};
 use crate::case::{bytes, past, wide, word};
 use columns::lesser;
-use dayformat::Counts;
+use dayrows::Tables;
 use std::io::{Result, Write};
 use units::Megajoules;
 
-pub fn answer_hour<W: Write>(
-    out: &mut W,
-    counts: Counts,
-    numbers: &[usize],
-    given: &[u8],
-) -> Result<()> {
+pub fn answer_hour<W: Write>(out: &mut W, tables: Tables, given: &[u8]) -> Result<()> {
     let mut lent = [LENT_BYTE; MOST_BYTES];
     let capacity = Megajoules(wide(word(given, 0), word(given, 1)) as u64);
     let at = wide(word(given, 2), word(given, 3));
     let room = lesser(word(given, 4) as usize, MOST_BYTES);
     let part = bytes(past(given, 5));
-    let size = pointhours::put_hour(counts, numbers, part, capacity, &mut lent[0..room], at);
+    let size = pointhours::put_hour(tables, part, capacity, &mut lent[0..room], at);
     out.write_all(b"put_hour")?;
     put_figures(out, &[0, 0, size as u64])?;
     put_block(out, &lent, room)

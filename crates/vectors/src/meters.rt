@@ -4,7 +4,7 @@ ghost use Rattle.std.specs.Prelude.{◌≤◌};
 use crate::lines::{put_figures, put_refusal};
 use crate::words::{MOST_ROWS, list, megajoules_of, past, past_list, wide, word};
 use metered::Side;
-use overruns::Overruns;
+use overruns::{ExcusedHours, Overruns, ShipperDay};
 use std::io::{self, Write};
 use units::{Gigajoules, Megajoules, Refusal};
 
@@ -84,18 +84,21 @@ pub fn answer_daily<W: Write>(out: &mut W, case: &[u32]) -> io::Result<()> {
 }
 
 pub fn answer_overruns<W: Write>(out: &mut W, case: &[u32]) -> io::Result<()> {
-    let day = overruns::overruns_of_day(
-        Gigajoules(word(case, 0)),
-        Gigajoules(word(case, 1)),
-        hours_of(past(case, 10)),
-        sides_of(past(case, 32)),
-        side_of(past(case, 2)),
-        side_of(past(case, 6)),
-        hours_of(past(case, 128)),
-        sides_of(past(case, 150)),
-    );
+    let day = ShipperDay {
+        p: Gigajoules(word(case, 0)),
+        m: Gigajoules(word(case, 1)),
+        yesterday: hours_of(past(case, 10)),
+        hours: sides_of(past(case, 32)),
+        receipt: side_of(past(case, 2)),
+        delivery: side_of(past(case, 6)),
+    };
+    let excused = ExcusedHours {
+        yesterday: hours_of(past(case, 128)),
+        hours: sides_of(past(case, 150)),
+    };
+    let over = overruns::overruns_of_day(&day, &excused);
     out.write_all(b"overruns_of_day")?;
-    match day {
+    match over {
         Err(refusal) => put_refusal(out, refusal),
         Ok(over) => put_overruns(out, over),
     }

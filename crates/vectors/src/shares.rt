@@ -2,6 +2,7 @@
 use crate::lines::{put_figures, put_gigajoules, put_refusal};
 use crate::words::{MOST_ROWS, list, past, past_list, word};
 use dayshares::Shares;
+use daytable::DayTable;
 use std::io::{self, Write};
 use units::{Gigajoules, Refusal};
 
@@ -63,18 +64,16 @@ fn share_day(
     let firm_schedule = past_list(auction_mdq);
     let auction_schedule = past_list(firm_schedule);
     let lower_tier_schedule = past_list(auction_schedule);
-    dayshares::share_day(
-        Gigajoules(word(case, 0)),
-        Gigajoules(word(case, 1)),
-        list(firm_mdq),
-        list(auction_mdq),
-        list(firm_schedule),
-        list(auction_schedule),
-        list(lower_tier_schedule),
-        firm,
-        auction,
-        lower_tier,
-    )
+    let table = DayTable {
+        free_flow: Gigajoules(word(case, 0)),
+        compressor: Gigajoules(word(case, 1)),
+        firm_mdq: list(firm_mdq),
+        auction_mdq: list(auction_mdq),
+        firm_schedule: list(firm_schedule),
+        auction_schedule: list(auction_schedule),
+        lower_tier_schedule: list(lower_tier_schedule),
+    };
+    dayshares::share_day(&table, firm, auction, lower_tier)
 }
 
 fn put_day<W: Write>(out: &mut W, shares: Shares) -> io::Result<()> {

@@ -13,7 +13,7 @@ use Rattle.dayrows.proofs.first_failing_row.Goals as goal
 
 pub returns : goal.returns
 returns c =
-    let fails = λ (row : ℕ). not (passes c.args.test File c.args.counts (col c.args.numbers.now) c.args.tag row) in
+    let fails = λ (row : ℕ). not (passes c.args.test File c.args.tables.counts (col c.args.tables.numbers.now) c.args.tag row) in
     c.unwrap_or.ensures
     ∙ find-first fails _ _ _ c.find.result c.find.ensures.ran (λ x b q k. search (rules, tests))
     ∙ ap (λ n. first n fails) c.count_of-rows.ensures

@@ -15,7 +15,7 @@ returns-then-is_bounded c =
     let is = c.row_of-row.ensures in
     let inside = rw (is.among, is.tagged, is.begins) at c.is_bounded.ensures in
     rw (← ap (λ form. form.most) c.form_of.ensures, lt-ltb _ _ c.if-form_of-row.false, ← inside, c.if-is_bounded.true)
-    (rw (is.counted, is.among, is.tagged, is.begins) at c.is_of_source.ensures)
+    (rw (is.among, is.tagged, is.begins) at c.is_of_source.ensures)
 
 pub returns-else-is_bounded : goal.returns-else-is_bounded
 unfolding passes

@@ -6,4 +6,4 @@ use Rattle.dayshares.proofs.share_day.Goals as goal
 
 pub share_accepted-requires : goal.share_accepted-requires
 share_accepted-requires c =
-    ready _ _ _ _ (accepting _ _ _ _ (sym c.examine_day.ensures ∙ c.in_ok-examine_day.was))
+    ready _ _ _ _ (accepting _ _ _ _ (sym c.examine.ensures ∙ c.in_ok-examine.was))

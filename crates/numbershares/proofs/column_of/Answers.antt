@@ -12,4 +12,4 @@ unwrap-requires c =
     rw (c.shipper_column.ensures.answers, long, c.requires) refl
 
 pub returns : goal.returns
-returns c = column-had c.args.counts c.args.numbers.now c.args.which c.shipper_column.ensures c.requires
+returns c = column-had c.args.tables.counts c.args.tables.numbers.now c.args.which c.shipper_column.ensures c.requires

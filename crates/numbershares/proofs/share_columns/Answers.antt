@@ -33,32 +33,32 @@ column_of-lower_tier_schedule-requires c = (columns_accepted _ _ c.requires).fiv
 pub slice_bounds-firm_mdq-end : goal.slice_bounds-firm_mdq-end
 slice_bounds-firm_mdq-end c = part-inside _ _ 1 (few _ _ c.requires) c.column_of-firm_mdq.ensures
 
-pub slice_bounds-share_day-end : goal.slice_bounds-share_day-end
-slice_bounds-share_day-end c = part_long _ _ 1 (few _ _ c.requires) c.column_of-firm_mdq.ensures
+pub slice_bounds-table-end : goal.slice_bounds-table-end
+slice_bounds-table-end c = part_long _ _ 1 (few _ _ c.requires) c.column_of-firm_mdq.ensures
 
 pub slice_bounds-auction_mdq-end : goal.slice_bounds-auction_mdq-end
 slice_bounds-auction_mdq-end c = part-inside _ _ 2 (few _ _ c.requires) c.column_of-auction_mdq.ensures
 
-pub slice_bounds-share_day-end-2 : goal.slice_bounds-share_day-end-2
-slice_bounds-share_day-end-2 c = part_long _ _ 2 (few _ _ c.requires) c.column_of-auction_mdq.ensures
+pub slice_bounds-table-end-2 : goal.slice_bounds-table-end-2
+slice_bounds-table-end-2 c = part_long _ _ 2 (few _ _ c.requires) c.column_of-auction_mdq.ensures
 
 pub slice_bounds-firm_schedule-end : goal.slice_bounds-firm_schedule-end
 slice_bounds-firm_schedule-end c = part-inside _ _ 3 (few _ _ c.requires) c.column_of-firm_schedule.ensures
 
-pub slice_bounds-share_day-end-3 : goal.slice_bounds-share_day-end-3
-slice_bounds-share_day-end-3 c = part_long _ _ 3 (few _ _ c.requires) c.column_of-firm_schedule.ensures
+pub slice_bounds-table-end-3 : goal.slice_bounds-table-end-3
+slice_bounds-table-end-3 c = part_long _ _ 3 (few _ _ c.requires) c.column_of-firm_schedule.ensures
 
 pub slice_bounds-auction_schedule-end : goal.slice_bounds-auction_schedule-end
 slice_bounds-auction_schedule-end c = part-inside _ _ 4 (few _ _ c.requires) c.column_of-auction_schedule.ensures
 
-pub slice_bounds-share_day-end-4 : goal.slice_bounds-share_day-end-4
-slice_bounds-share_day-end-4 c = part_long _ _ 4 (few _ _ c.requires) c.column_of-auction_schedule.ensures
+pub slice_bounds-table-end-4 : goal.slice_bounds-table-end-4
+slice_bounds-table-end-4 c = part_long _ _ 4 (few _ _ c.requires) c.column_of-auction_schedule.ensures
 
 pub slice_bounds-lower_tier_schedule-end : goal.slice_bounds-lower_tier_schedule-end
 slice_bounds-lower_tier_schedule-end c = part-inside _ _ 5 (few _ _ c.requires) c.column_of-lower_tier_schedule.ensures
 
-pub slice_bounds-share_day-end-5 : goal.slice_bounds-share_day-end-5
-slice_bounds-share_day-end-5 c = part_long _ _ 5 (few _ _ c.requires) c.column_of-lower_tier_schedule.ensures
+pub slice_bounds-table-end-5 : goal.slice_bounds-table-end-5
+slice_bounds-table-end-5 c = part_long _ _ 5 (few _ _ c.requires) c.column_of-lower_tier_schedule.ensures
 
 pub shape_of-firm : goal.shape_of-firm
 shape_of-firm c = c.share_day.auto.firm

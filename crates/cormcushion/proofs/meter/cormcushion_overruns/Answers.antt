@@ -3,4 +3,4 @@
 use Rattle.cormcushion.proofs.meter.cormcushion_overruns.Goals as goal
 
 pub returns : goal.returns
-returns c = rw c.metered_of-over.ensures at c.price_rated.ensures
+returns c = rw (c.metered_overruns.ensures, c.shipper_day-day.ensures) at c.price_rated.ensures

@@ -7,4 +7,4 @@ use Rattle.daymeters.proofs.hours.fill_delivered.Given as goal
 
 abbrev pub invariant-loop-hour : goal.invariant-loop-hour
 invariant-loop-hour l =
-    Filling l.initial.out (λ i. meter_at l.counts (col l.numbers) l.row (hours_at + i)) l.hour l.out
+    Filling l.initial.out (λ i. meter_at l.tables.counts (col l.tables.numbers.now) l.row (hours_at + i)) l.hour l.out

@@ -7,4 +7,4 @@ use Rattle.daymeters.proofs.hours.hours_from.Given as goal
 
 abbrev pub invariant-loop-hour : goal.invariant-loop-hour
 invariant-loop-hour g l =
-    Writing l.initial.hours g.row.N (λ i. number_at l.counts (col l.numbers) l.tag l.row (l.at + i)) l.hour l.hours
+    Writing l.initial.hours g.row.N (λ i. number_at l.tables.counts (col l.tables.numbers.now) l.tag l.row (l.at + i)) l.hour l.hours

@@ -18,6 +18,6 @@ returns-then-not-lists c =
 pub returns : goal.returns
 unfolding capped
 returns c =
-    let by = λ (other : ℕ). caps c.args.row.counts (col c.args.row.numbers.now) c.args.row.tag c.args.row.at other in
+    let by = λ (other : ℕ). caps c.args.row.tables.counts (col c.args.row.tables.numbers.now) c.args.row.tag c.args.row.at other in
     rw (← first_of c.args.row.tag c.names_of.ensures (0 is_a Head), ← c.lists.ensures, c.if-not-lists.false, ← c.count_of.ensures)
     (any-first by _ _ _ c.any.result c.any.ensures.ran (λ x b q k. search (rules, tests)))

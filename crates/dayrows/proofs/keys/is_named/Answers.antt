@@ -14,8 +14,8 @@ use Rattle.dayrows.proofs.keys.is_named.Goals as goal
 pub returns : goal.returns
 returns c =
     let args = c.args.row in
-    let known = λ (name : Name). lists args.counts (col args.numbers.now) name.tag (args.at + name.place) in
+    let known = λ (name : Name). lists args.tables.counts (col args.tables.numbers.now) name.tag (args.at + name.place) in
     all_from_yields_List known _ _ c.all.result c.all.ensures.ran (YieldsList-from_slice c.names_of.result (cc))
     (λ x b q k. search (rules, tests))
-    ∙ listed_all args.counts (col args.numbers.now) args.at c.names_of.result
+    ∙ listed_all args.tables.counts (col args.tables.numbers.now) args.at c.names_of.result
     ∙ rw (c.names_of.ensures, listed_filled)

@@ -10,5 +10,5 @@ pub returns : goal.returns
 unfolding lists
 returns c =
     rw (← c.count_of-rows.ensures)
-    (any-first (λ row. keyed c.args.counts (col c.args.numbers.now) c.args.tag c.args.at row) _ _ _ c.any.result c.any.ensures.ran
+    (any-first (λ row. keyed c.args.tables.counts (col c.args.tables.numbers.now) c.args.tag c.args.at row) _ _ _ c.any.result c.any.ensures.ran
     (λ x b q k. search (rules, tests)))

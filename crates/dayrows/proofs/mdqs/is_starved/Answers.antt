@@ -13,7 +13,7 @@ use Rattle.dayrows.proofs.mdqs.is_starved.Goals as goal
 
 pub returns : goal.returns
 returns c =
-    let f = col c.args.row.numbers.now in
+    let f = col c.args.row.tables.numbers.now in
     let without = λ (pair : Pair). idle (f (c.args.row.at + pair.mdq)) (f (c.args.row.at + pair.schedule)) in
     any_from_yields_List without _ _ c.any.result c.any.ensures.ran (YieldsList-from_slice c.mdqs_of.result (cc))
     (λ x b q k. search (rules, tests))

@@ -7,4 +7,4 @@ use Rattle.dayvalues.proofs.column.fill_column.Given as goal
 
 abbrev pub invariant-loop-row : goal.invariant-loop-row
 invariant-loop-row l =
-    Filling l.initial.out (λ i. number_at l.counts (col l.numbers) Shipper i l.place) l.row l.out
+    Filling l.initial.out (λ i. number_at l.tables.counts (col l.tables.numbers.now) Shipper i l.place) l.row l.out

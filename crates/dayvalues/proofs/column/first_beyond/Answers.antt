@@ -12,5 +12,5 @@ use Rattle.dayvalues.proofs.column.first_beyond.Goals as goal
 pub returns : goal.returns
 returns c =
     let args = c.args in
-    let is = λ (row : ℕ). beyond args.counts (col args.numbers.now) Shipper row args.place in
+    let is = λ (row : ℕ). beyond args.tables.counts (col args.tables.numbers.now) Shipper row args.place in
     c.unwrap_or.ensures ∙ find-first is _ _ _ c.find.result c.find.ensures.ran (λ x b q k. search (rules, tests))

@@ -13,7 +13,7 @@ use Rattle.dayvalues.proofs.row.row_beginning.Goals as goal
 pub returns : goal.returns
 returns c =
     let args = c.args in
-    let begins = λ (row : ℕ). eqb (number_at args.counts (col args.numbers.now) args.tag row 0) args.number in
+    let begins = λ (row : ℕ). eqb (number_at args.tables.counts (col args.tables.numbers.now) args.tag row 0) args.number in
     c.unwrap_or.ensures
     ∙ find-first begins _ _ _ c.find.result c.find.ensures.ran (λ x b q k. search (rules, tests))
     ∙ ap (λ n. first n begins) c.count_of-rows.ensures

@@ -5,4 +5,4 @@ use Rattle.daywriter.proofs.put.put_fields.Given as goal
 
 abbrev pub invariant-loop-row : goal.invariant-loop-row
 invariant-loop-row l =
-    Fielding l.counts (col l.numbers) l.tag l.initial.block l.at l.row l.block l.byte
+    Fielding l.tables.counts (col l.tables.numbers.now) l.tag l.initial.block l.at l.row l.block l.byte

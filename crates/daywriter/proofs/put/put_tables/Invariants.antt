@@ -6,4 +6,4 @@ use Rattle.daywriter.proofs.put.put_tables.Given as goal
 
 abbrev pub invariant-loop-place : goal.invariant-loop-place
 invariant-loop-place l =
-    Tabling l.counts (col l.numbers) l.initial.block 15 l.place l.block l.at × (l.at ≤ 15 + l.place * 2 ^ 41)
+    Tabling l.tables.counts (col l.tables.numbers.now) l.initial.block 15 l.place l.block l.at × (l.at ≤ 15 + l.place * 2 ^ 41)

@@ -22,4 +22,4 @@ returns c =
     c.unwrap_or.ensures
     ∙ as_far c.number_at-mdq.result c.try_from.result c.try_from.ensures
     ∙ ap (λ mdq. min mdq most_number)
-    (c.number_at-mdq.ensures ∙ ap (column args.counts (col args.numbers.now) 1) c.row_beginning-row.ensures)
+    (c.number_at-mdq.ensures ∙ ap (column args.tables.counts (col args.tables.numbers.now) 1) c.row_beginning-row.ensures)

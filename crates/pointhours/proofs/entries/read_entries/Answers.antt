@@ -17,7 +17,7 @@ loop-entry-preserved c =
       filling_next _ _ _ _ _ now.0 c.entitlement_in.ensures,
       filling_next _ _ _ _ _ now.1
           (c.firm_mdq.ensures
-          ∙ ap (λ shipper. min (firm_mdq args.counts (col args.numbers.now) shipper) most_number)
+          ∙ ap (λ shipper. min (firm_mdq args.tables.counts (col args.tables.numbers.now) shipper) most_number)
           c.shipper_in.ensures),
     )
 
@@ -28,5 +28,5 @@ returns c =
       filling_all _ _ _ _ _ now.invariant.0 now.auto.entry-end c.loop-entry-test.false
           ∙ ap (λ many. with_zeros many (entitlement_in args.part.now)) c.entries_in-many.ensures.0,
       filling_all _ _ _ _ _ now.invariant.1 now.auto.entry-end c.loop-entry-test.false
-          ∙ ap (λ many. with_zeros many (mdq_in args.counts (col args.numbers.now) args.part.now)) c.entries_in-many.ensures.0,
+          ∙ ap (λ many. with_zeros many (mdq_in args.tables.counts (col args.tables.numbers.now) args.part.now)) c.entries_in-many.ensures.0,
     )

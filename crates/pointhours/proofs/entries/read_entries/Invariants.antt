@@ -8,4 +8,4 @@ use Rattle.pointhours.proofs.entries.read_entries.Given as goal
 abbrev pub invariant-loop-entry : goal.invariant-loop-entry
 invariant-loop-entry l =
     Filling (replicate most_entries 0) (entitlement_in l.part) l.entry l.entitlements
-    × Filling (replicate most_entries 0) (mdq_in l.counts (col l.numbers) l.part) l.entry l.mdqs
+    × Filling (replicate most_entries 0) (mdq_in l.tables.counts (col l.tables.numbers.now) l.part) l.entry l.mdqs

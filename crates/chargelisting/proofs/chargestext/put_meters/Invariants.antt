@@ -1,9 +1,0 @@
--- A line for each row that the loop has gone over stands from the place on.
-use Prim.Native.Nat.{◌*◌, ◌≤◌}
-use Rattle.text.specs.Text.{Laid}
-use Rattle.chargelisting.specs.ChargesText.{meter_lines}
-use Rattle.chargelisting.proofs.chargestext.put_meters.Given as goal
-
-abbrev pub invariant-loop-row : goal.invariant-loop-row
-invariant-loop-row l =
-    (l.size ≤ 2048 * l.row) × Laid (meter_lines l.rate l.counts l.numbers l.row) l.initial.text l.at l.size l.text
