@@ -3,11 +3,13 @@
 
 mod answer;
 mod case;
+mod day;
 
 ghost use Rattle.std.specs.Prelude.{◌≤◌, ⊤, length, IfOk, MatchOption};
 
 pub use answer::{Figure, put_answer, put_block, put_figures, put_list, put_verdict};
-pub use case::{bytes, past, past_bytes, wide, word, word_within};
+pub use case::{bytes, of_halves, past, past_bytes, wide, word, word_within};
+pub use day::{day_of, figures_of};
 use std::io::{self, Read, Write};
 
 // A program's routines.
@@ -34,6 +36,7 @@ pub fn answer_cases<A: Answers, R: Read, W: Write>(
 }
 
 // Reads the next case, where there is one, to the front of the lent block: how many words it has, then the words, each of four bytes.
+// Words that the input ends before are zero.
 fn read_case<R: Read>(input: &mut R, lent: &mut [u8]) -> io::Result<Option<usize>>
     ensures { IfOk result (λ read. MatchOption read ⊤ (λ size. size ≤ length lent.new)) }
 {
@@ -42,6 +45,7 @@ fn read_case<R: Read>(input: &mut R, lent: &mut [u8]) -> io::Result<Option<usize
         return Ok(None);
     }
     let size = word_within(&head, 0, lent.len() / 4) * 4;
-    let read = streams::read_full(input, &mut lent[..size])?;
-    Ok(Some(read))
+    lent[..size].fill(0);
+    streams::read_full(input, &mut lent[..size])?;
+    Ok(Some(size))
 }

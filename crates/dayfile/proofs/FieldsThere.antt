@@ -8,7 +8,7 @@ use lib.Seq.{take_at, drop_at, take-add, drop-drop, take-suc, get_or-drop, lengt
 use Rattle.columns.specs.Column.{col}
 use Rattle.columns.proofs.Lists.{length-listed}
 use Rattle.bigendian.specs.Number.{value, bytes, AreBytes}
-use Rattle.bigendian.specs.Row.{size, decode, encode, Fit}
+use Rattle.bigendian.specs.Row.{decode, encode, Fit}
 use Rattle.bigendian.proofs.Numbers.{length-bytes, value-bytes, bytes-value, drop-bytes, take-bytes}
 use Rattle.bigendian.proofs.Rows.{decode-encode-past, encode-decode}
 use Rattle.dayformat.specs.declared.form.Tag.{Tag}

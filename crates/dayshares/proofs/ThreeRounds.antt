@@ -8,7 +8,7 @@ use lib.Seq.{sets}
 use Rattle.columns.specs.Column.{col, listed}
 use Rattle.columns.specs.Sum.{sum}
 use Rattle.columns.proofs.Lists.{made-long, made-col}
-use Rattle.sharing.specs.Round.{level, shares}
+use Rattle.sharing.specs.Round.{shares}
 use Rattle.sharing.specs.Chain.{unmet}
 use Rattle.sharing.proofs.Levels.{level-fits}
 use Rattle.sharing.proofs.Chains.{after_le, after-sum}

@@ -3,7 +3,7 @@ use Rattle.columns.specs.Column.{listed}
 use Rattle.columns.specs.Sum.{sum}
 use Rattle.columns.specs.First.{first_from}
 use Rattle.sharing.specs.Chain.{after}
-use Rattle.units.specs.Refusals.{◌then◌, keep, clear, first_refusal}
+use Rattle.units.specs.Refusals.{keep, clear, first_refusal}
 use Rattle.excesses.specs.TwelveHourly.{period_limit}
 use Rattle.tariff.specs.HalfUp.{half_up}
 use Rattle.tariff.specs.Charges.{overrun_check, variation_check}

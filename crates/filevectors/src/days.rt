@@ -1,10 +1,9 @@
 // The day file's reader and writer.
 use crate::lent::{LENT_BYTE, LENT_NUMBER, MOST_BYTES, MOST_NUMBERS, put_written_numbers};
 use crate::texts::put_text;
-use cases::{bytes, past, past_bytes, put_answer, word, word_within};
-use dayformat::{Counts, Day, Head};
+use cases::{bytes, day_of, of_halves, past, past_bytes, put_answer, word_within};
+use dayformat::Day;
 use std::io::{Result, Write};
-use units::Gigajoules;
 
 pub fn answer_reading<W: Write>(out: &mut W, given: &[u8]) -> Result<()> {
     let mut lent = [LENT_NUMBER; MOST_NUMBERS];
@@ -40,27 +39,7 @@ pub fn answer_writing<W: Write>(out: &mut W, given: &[u8]) -> Result<()> {
     put_text(out, b"write_day", written, &lent[..room])
 }
 
-// A day's head and counts.
-fn day_of(given: &[u8]) -> Day {
-    Day {
-        head: Head {
-            day: word(given, 0),
-            free_flow: Gigajoules(word(given, 1)),
-            compressor: Gigajoules(word(given, 2)),
-        },
-        counts: Counts {
-            shippers: word(given, 3),
-            points: word(given, 4),
-            entries: word(given, 5),
-            meters: word(given, 6),
-            excused: word(given, 7),
-        },
-    }
-}
-
 // The numbers of 64 bits of which two lists of words have the halves.
 fn numbers_of(higher: &[u8], lower: &[u8]) -> [usize; MOST_NUMBERS] {
-    std::array::from_fn(|place| {
-        word(higher, place) as usize * 4_294_967_296 + word(lower, place) as usize
-    })
+    std::array::from_fn(|place| of_halves(higher, lower, place))
 }

@@ -9,7 +9,7 @@ use borrow.Author.Tests.{le-leb}
 use lib.ListN.{length, take}
 use lib.Seq.{length-take-le}
 use Rattle.units.specs.declared.refusal.Refusal.{Refusal}
-use Rattle.units.specs.Refusals.{◌then◌, Check, first_refusal}
+use Rattle.units.specs.Refusals.{Check, first_refusal}
 use Rattle.units.proofs.Checks.{accepts-both, accepts-kept, both-accepted}
 use Rattle.lines.specs.Answer.{ListingAnswered}
 use Rattle.lines.proofs.Answers.{refused-before}

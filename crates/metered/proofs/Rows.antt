@@ -1,15 +1,13 @@
--- The figures of a row, one by one and together, and yesterday's hours followed by today's.
+-- The figures of a row, yesterday's hours followed by today's, and a whole list as what a loop has written.
 use mathlib.Core.Path.{◌≡◌, ap, sym, ◌∙◌}
-use mathlib.Core.List.{List, [], ◌++◌, map, append-nil}
-use Prim.Native.Nat.{ℕ}
+use mathlib.Core.List.{List, [], ◌++◌, append-nil}
+use Prim.Native.Nat.{ℕ, ◌+◌, ◌≤◌}
 use native.Mathlib.Omega.{arith}
-use denote.Param.Members.{Mut}
 use borrow.Rule.Slice.PartMut.{put_mid}
 use lib.ListN.{take, length-append, length, drop, get_or, drop_of_length-le, length-map, get_or-map}
-use lib.Seq.{take_at, drop_at, ext_get_or}
-use Rattle.std.specs.Array.{IsMapOf}
-use Rattle.std.specs.Fn.{Called}
+use lib.Seq.{sets, sets-eq, take_at, drop_at}
 use Rattle.columns.specs.Column.{col}
+use Rattle.columns.proofs.Lists.{Filling, filling_all, listed-col}
 use Rattle.units.specs.declared.Megajoules.{Megajoules}
 use Rattle.metered.specs.Hours.{bare_hours, both_days}
 
@@ -37,12 +35,12 @@ days-copied yesterday today begun first second room eleven e f =
     rw (e, f, take_at yesterday begun 11 eleven, drop_at yesterday begun 11 eleven, behind)
     (ap (λ l. yesterday ++ l) (append-nil today))
 
--- items made numbers one by one
-pub numbers-made : {F X : Type 0} {g : Mut F (X × Unit {0}) ℕ} {f : F} (number : X → ℕ) (past : X) (items : List X) (numbers : List ℕ)
-    (n : ℕ) → length items ≡ n → IsMapOf g f items numbers n
-    → ((p q : F) (x : X) (y : ℕ) → Called g p (x, tt) y q → y ≡ number x) → numbers ≡ map number items
-numbers-made number past items numbers n long M each =
-    ext_get_or (number past) numbers (map number items) (M.long ∙ sym (length-map items number ∙ long))
-    (λ i l.
-    let made = M.at i past (number past) (omega (arith, M.long)) in
-    each made.0 made.1 _ _ made.2 ∙ sym (get_or-map number items i past))
+-- a list is whole once its last hour is written
+pub filled : (start xs : List ℕ) (n : ℕ) {row : ℕ} {list : List ℕ} → length start ≡ n → length xs ≡ n
+    → Filling start (col xs) row list → row ≤ n → n ≤ row → list ≡ xs
+filled start xs n {row} {list} a b F h k =
+    let rest : drop (0 + length xs) start ≡ [] = drop_of_length-le start {i = 0 + length xs} (omega arith) in
+    filling_all start (col xs) (length xs) row list F (omega arith) (omega arith)
+    ∙ ap (sets start 0) (listed-col xs)
+    ∙ sets-eq xs start 0 (omega arith)
+    ∙ rw rest (append-nil xs)

@@ -11,7 +11,7 @@ use lib.Dec.{ltb}
 use lib.ListN.{length, get_or, take, length-set, length-replicate}
 use lib.Seq.{length-take-le, take-suc-set, get_or-take, get_or-set_same, get_or-set_other}
 use Rattle.columns.proofs.Joined.{joined_same}
-use Rattle.units.specs.Refusals.{accepted_or, ◌then◌, keep, Check, first_refusal}
+use Rattle.units.specs.Refusals.{accepted_or, keep, Check, first_refusal}
 use Rattle.units.specs.Each.{each}
 use Rattle.units.proofs.Checks.{then_accepted}
 use Rattle.month.specs.declared.account.AccountDay.{AccountDay}

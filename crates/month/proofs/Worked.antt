@@ -6,7 +6,7 @@ use Prim.Native.Nat.{ℕ, ◌+◌}
 use lib.ListN.{length}
 use Rattle.columns.specs.Column.{col, joined}
 use Rattle.columns.specs.Sum.{sum}
-use Rattle.units.specs.Refusals.{plain, ◌then◌, keep, first_refusal}
+use Rattle.units.specs.Refusals.{plain, keep, first_refusal}
 use Rattle.units.specs.Each.{each}
 use Rattle.text.specs.Text.{digits, decimal}
 use Rattle.lines.specs.Line.{line}

@@ -8,7 +8,7 @@ use Rattle.columns.specs.Column.{listed}
 use Rattle.columns.specs.Sum.{sum}
 use Rattle.columns.specs.First.{first_from}
 use Rattle.units.specs.declared.Megajoules.{Megajoules}
-use Rattle.units.specs.Refusals.{at_row, ◌then◌, keep, clear, first_refusal}
+use Rattle.units.specs.Refusals.{at_row, keep, clear, first_refusal}
 use Rattle.excesses.specs.TwelveHourly.{period_limit}
 use Rattle.metered.specs.Hours.{hours_check}
 use Rattle.metered.specs.Singles.{mdqs_check, side_check, sides_check}

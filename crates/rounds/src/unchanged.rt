@@ -15,8 +15,8 @@ impl Sharers<'_> {
             ≤ given_at self.now.weights.now self.now.needs.now low) }
     {
         let mut last = high - 1;
-        for (weight, need) in self.weights.iter().zip(self.needs) {
-            last = last_of_row(*weight, *need, low, last);
+        for row in 0..self.weights.len() {
+            last = last_of_row(self.weights[row], self.needs[row], low, last);
         }
         last
     }

@@ -19,9 +19,9 @@ impl Sharers<'_> {
     {
         let mut most: u32 = 0;
         let mut weights: u32 = 0;
-        for (weight, need) in self.weights.iter().zip(self.needs) {
-            most += share_at_top(*weight, *need);
-            weights += *weight;
+        for row in 0..self.weights.len() {
+            most += share_at_top(self.weights[row], self.needs[row]);
+            weights += self.weights[row];
         }
         Whole { most, weights }
     }

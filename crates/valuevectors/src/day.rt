@@ -1,10 +1,9 @@
 // A day in memory: its head and counts, then how many numbers it has, and two byte strings of their halves. A number past these is 0.
 ghost use Rattle.std.specs.Prelude.{◌≤◌};
 
-use cases::{bytes, past, past_bytes, word, word_within};
-use dayformat::{Counts, Day, Head};
+use cases::{bytes, of_halves, past, past_bytes, word_within};
+use dayformat::Day;
 use dayrows::Tables;
-use units::Gigajoules;
 
 // What a lent list holds before the call: no answer has it.
 pub const LENT: u32 = 4_000_000_000;
@@ -23,23 +22,6 @@ pub struct Given<'a> {
     pub rest: &'a [u8],
 }
 
-pub fn day_of(case: &[u8]) -> Day {
-    Day {
-        head: Head {
-            day: word(case, 0),
-            free_flow: Gigajoules(word(case, 1)),
-            compressor: Gigajoules(word(case, 2)),
-        },
-        counts: Counts {
-            shippers: word(case, 3),
-            points: word(case, 4),
-            entries: word(case, 5),
-            meters: word(case, 6),
-            excused: word(case, 7),
-        },
-    }
-}
-
 // How many numbers it has.
 pub fn length_of(case: &[u8]) -> usize
     ensures { result ≤ 10721 }
@@ -51,9 +33,7 @@ pub fn numbers_of(case: &[u8]) -> [usize; MOST_NUMBERS] {
     let halves = past(case, 9);
     let lower = bytes(halves);
     let higher = bytes(past_bytes(halves));
-    std::array::from_fn(|place| {
-        word(higher, place) as usize * 4_294_967_296 + word(lower, place) as usize
-    })
+    std::array::from_fn(|place| of_halves(higher, lower, place))
 }
 
 // What follows the day.

@@ -1,7 +1,6 @@
 // The columns of a day's shippers, and their shares.
 use crate::day::{Given, LENT, MOST_ROWS};
 use cases::{put_answer, put_list, wide, word, word_within};
-use dayshares::Shares;
 use dayvalues::ShipperColumn;
 use std::io::{Result, Write};
 
@@ -50,19 +49,4 @@ pub fn answer_shares<W: Write>(out: &mut W, given: Given) -> Result<()> {
     put_list(out, &firm[..firm_room])?;
     put_list(out, &auction[..auction_room])?;
     put_list(out, &lower_tier[..lower_tier_room])
-}
-
-fn figures_of(shares: Shares) -> [u64; 9] {
-    let levels = shares.levels;
-    [
-        levels.one,
-        levels.two,
-        levels.three,
-        levels.auction,
-        levels.lower_tier,
-        shares.firm.0 as u64,
-        shares.auction.0 as u64,
-        shares.lower_tier.0 as u64,
-        shares.left.0 as u64,
-    ]
 }

@@ -8,10 +8,8 @@ mod meters;
 mod shares;
 
 use cases::{Answers, answer_cases, past, word};
+use lists::MOST_WORDS;
 use std::io::{Result, Write};
-
-// No case has more words.
-const MOST_WORDS: usize = 512;
 
 struct Rules;
 

@@ -1,6 +1,6 @@
 // One sharing round, and a day's shares.
 use crate::lists::{LENT, MOST_ROWS, list, past_list};
-use cases::{past, put_answer, put_list, word, word_within};
+use cases::{figures_of, past, put_answer, put_list, word, word_within};
 use dayshares::Shares;
 use daytable::DayTable;
 use std::io::{self, Write};
@@ -68,19 +68,4 @@ fn share_day(
         auction,
         lower_tier,
     )
-}
-
-fn figures_of(shares: Shares) -> [u64; 9] {
-    let levels = shares.levels;
-    [
-        levels.one,
-        levels.two,
-        levels.three,
-        levels.auction,
-        levels.lower_tier,
-        shares.firm.0 as u64,
-        shares.auction.0 as u64,
-        shares.lower_tier.0 as u64,
-        shares.left.0 as u64,
-    ]
 }

@@ -1,6 +1,6 @@
 -- Hour by hour the greater of the two excesses is added, each of what was metered less what is excused.
 use mathlib.Core.List.{List}
-use Prim.Native.Nat.{ℕ, ◌-◌}
+use Prim.Native.Nat.{ℕ}
 use Rattle.columns.specs.Column.{col}
 use Rattle.columns.proofs.Sums.{Adding}
 use Rattle.units.specs.declared.Megajoules.{Megajoules}

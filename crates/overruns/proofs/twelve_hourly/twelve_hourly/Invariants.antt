@@ -1,5 +1,4 @@
 -- Period by period an hour enters the sum and one leaves it, and the excess is added to those before.
-use Prim.Native.Nat.{◌-◌}
 use Rattle.columns.specs.Column.{col}
 use Rattle.overruns.proofs.AddedPeriods.{Added}
 use Rattle.overruns.proofs.twelve_hourly.twelve_hourly.Given as goal

@@ -4,6 +4,6 @@ use Rattle.columns.specs.Column.{col}
 use Rattle.rounds.proofs.Unchanging.{Lasting}
 use Rattle.rounds.proofs.rows.Sharers.last_unchanged.Given as goal
 
-abbrev pub invariant-loop-weight : goal.invariant-loop-weight
-invariant-loop-weight l =
-    Lasting (length l.self.weights.now) (col l.self.weights.now) (col l.self.needs.now) l.low l.high (length l.yielded) l.last
+abbrev pub invariant-loop-row : goal.invariant-loop-row
+invariant-loop-row l =
+    Lasting (length l.self.weights.now) (col l.self.weights.now) (col l.self.needs.now) l.low l.high l.row l.last

@@ -1,27 +1,25 @@
 use native.Mathlib.Omega.{arith}
-use Rattle.std.proofs.lemmas.List.{length_push}
 use Rattle.columns.proofs.Sums.{adding_none, adding_next}
-use Rattle.rounds.proofs.Turns.{turn, given-small}
+use Rattle.rounds.proofs.Turns.{given-small}
 use Rattle.rounds.proofs.rows.Sharers.whole.Goals as goal
 
-pub loop-weight-init : goal.loop-weight-init
-loop-weight-init c = (adding_none _ _, omega arith)
+pub loop-row-init : goal.loop-row-init
+loop-row-init c = (adding_none _ _, omega arith)
+
+pub share_at_top-most-requires : goal.share_at_top-most-requires
+share_at_top-most-requires c =
+    c.args.self.now.rows.needs c.loop-row.row c.loop-row-test.true
 
 pub overflow_add-most : goal.overflow_add-most
 overflow_add-most c =
-    let now = turn c.args.self.now.rows c.loop-weight.yielded _ c.loop-weight.weight-iterator c.next.new.self _ (cc) (cc)
-    c.loop-weight.yielded_by _ c.in-Some.is c.next.ensures.steps in
-    omega (arith, given-small c.args.self.now.rows _ c.loop-weight.invariant.0, now.small)
+    let rows = c.args.self.now.rows in
+    omega (arith, given-small rows _ c.loop-row.invariant.0, rows.needs c.loop-row.row c.loop-row-test.true)
 
 pub overflow_add-weights : goal.overflow_add-weights
 overflow_add-weights c =
-    let now = turn c.args.self.now.rows c.loop-weight.yielded _ c.loop-weight.weight-iterator c.next.new.self _ (cc) (cc)
-    c.loop-weight.yielded_by _ c.in-Some.is c.next.ensures.steps in
-    omega (arith, now.light)
+    omega (arith, c.args.self.now.rows.weights c.loop-row.row c.loop-row-test.true)
 
-pub loop-weight-preserved : goal.loop-weight-preserved
-loop-weight-preserved c =
-    let now = turn c.args.self.now.rows c.loop-weight.yielded _ c.loop-weight.weight-iterator c.next.new.self _ (cc) (cc)
-    c.loop-weight.yielded_by _ c.in-Some.is c.next.ensures.steps in
-    let is = rw (now.weighs, now.needs) at c.share_at_top-most.ensures in
-    rw length_push (adding_next _ _ c.loop-weight.invariant.0 now.within is, omega (arith, now.light))
+pub loop-row-preserved : goal.loop-row-preserved
+loop-row-preserved c =
+    let small = c.args.self.now.rows.weights c.loop-row.row c.loop-row-test.true in
+    (adding_next _ _ c.loop-row.invariant.0 c.loop-row-test.true c.share_at_top-most.ensures, omega arith)
