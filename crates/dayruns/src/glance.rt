@@ -1,12 +1,13 @@
 // A field seen to be sound at a glance: its row is read once, by its tag's own reader. What is not seen so is taken in full.
 ghost use Rattle.std.specs.Prelude.{◌≡◌, true};
 ghost use Rattle.dayrows.specs.declared.Source.TheVariants.{File};
-ghost use Rattle.dayruns.specs.Private.{Placed, Glanced};
+ghost use Rattle.dayruns.specs.Private.{Glanced};
 
 use crate::caps::is_under;
+use crate::field::Field;
 use crate::names::{Near, near_entry, row_keyed_from};
 use crate::row::{see_entry_row, see_row};
-use dayformat::{Counts, ENTRY_BYTE, Tag, count_of, form_of, names_of};
+use dayformat::{ENTRY_BYTE, Tag, count_of, form_of, names_of};
 use dayrows::Source;
 
 // Whether a field is seen to be sound, and the rows that its names were found in.
@@ -17,23 +18,16 @@ pub struct Glance {
 }
 
 // An entry's, apart from that of all tags: tried for entries, that one is 1.3 times slower over a full file, since nothing is a constant.
-fn glance_at_entry(
-    counts: Counts,
-    file: &[u8],
-    at: usize,
-    row: u32,
-    numbers: &mut [usize],
-    to: usize,
-    near: Near,
-) -> Glance
-    requires { Placed counts Tag.Entry row to }
-    ensures { Glanced Source.File counts file.now Tag.Entry at row
+fn glance_at_entry(field: &Field, numbers: &mut [usize], near: Near) -> Glance
+    requires { field.now.tag ≡ Tag.Entry }
+    ensures { Glanced Source.File field.now.counts field.now.file.now Tag.Entry field.now.at field.now.row
         numbers.old numbers.new result.sound }
 {
-    if !see_entry_row(counts, file, at, row, numbers, to) {
+    let counts = field.counts;
+    if !see_entry_row(field, numbers) {
         return Glance { sound: false, near };
     }
-    let found = near_entry(counts, numbers, to, near);
+    let found = near_entry(counts, numbers, field.to, near);
     if counts.points as usize <= found.first {
         return Glance { sound: false, near };
     }
@@ -44,24 +38,16 @@ fn glance_at_entry(
 }
 
 // Any other row, whose names are looked for one after another; the first may find what caps its numbers.
-fn glance_at_row(
-    counts: Counts,
-    file: &[u8],
-    tag: Tag,
-    at: usize,
-    row: u32,
-    numbers: &mut [usize],
-    to: usize,
-    near: Near,
-) -> Glance
-    requires { Placed counts tag row to }
-    ensures { Glanced Source.File counts file.now tag at row
+fn glance_at_row(field: &Field, numbers: &mut [usize], near: Near) -> Glance
+    ensures { Glanced Source.File field.now.counts field.now.file.now field.now.tag field.now.at field.now.row
         numbers.old numbers.new result.sound }
 {
-    if !see_row(counts, file, tag, at, row, numbers, to) {
+    let counts = field.counts;
+    let to = field.to;
+    if !see_row(field, numbers) {
         return Glance { sound: false, near };
     }
-    let names = names_of(tag);
+    let names = names_of(field.tag);
     let one = names[0];
     let one_tag = one.tag;
     let first = row_keyed_from(counts, numbers, one_tag, to + one.place, near.first);
@@ -75,7 +61,7 @@ fn glance_at_row(
         return Glance { sound: false, near };
     }
     Glance {
-        sound: is_under(counts, numbers, tag, one_tag, to, first),
+        sound: is_under(counts, numbers, field.tag, one_tag, to, first),
         near: Near { first, second },
     }
 }
@@ -91,25 +77,15 @@ fn is_file(source: Source) -> bool
 }
 
 // Entries, of which a file has the most, have a glance of their own.
-pub fn glance_at(
-    source: Source,
-    counts: Counts,
-    file: &[u8],
-    tag: Tag,
-    at: usize,
-    row: u32,
-    numbers: &mut [usize],
-    to: usize,
-    near: Near,
-) -> Glance
-    requires { Placed counts tag row to }
-    ensures { Glanced source counts file.now tag at row numbers.old numbers.new result.sound }
+pub fn glance_at(source: Source, field: &Field, numbers: &mut [usize], near: Near) -> Glance
+    ensures { Glanced source field.now.counts field.now.file.now field.now.tag field.now.at field.now.row
+        numbers.old numbers.new result.sound }
 {
     if !is_file(source) {
         return Glance { sound: false, near };
     }
-    if form_of(tag).byte == ENTRY_BYTE {
-        return glance_at_entry(counts, file, at, row, numbers, to, near);
+    if form_of(field.tag).byte == ENTRY_BYTE {
+        return glance_at_entry(field, numbers, near);
     }
-    glance_at_row(counts, file, tag, at, row, numbers, to, near)
+    glance_at_row(field, numbers, near)
 }

@@ -3,6 +3,7 @@
 
 mod body;
 mod caps;
+mod field;
 mod glance;
 mod key;
 mod kind;

@@ -3,12 +3,13 @@ ghost use Rattle.std.specs.Prelude.{◌≡◌, true, false, cond, not, ◌+◌, 
 ghost use Rattle.columns.specs.Column.{col};
 ghost use Rattle.dayformat.specs.Format.{form};
 ghost use Rattle.dayrows.specs.Test.{starved};
-ghost use Rattle.dayruns.specs.Private.{Placed, Ready, RowRead};
+ghost use Rattle.dayruns.specs.Private.{Ready, RowRead};
 
 use crate::body::{read_body, read_entry};
+use crate::field::Field;
 use crate::key::is_next;
 use crate::kind::Cursor;
-use dayformat::{Counts, HEADER, Tag, form_of, mdqs_of};
+use dayformat::{HEADER, Tag, form_of, mdqs_of};
 use dayrows::{breaks, is_idle};
 
 fn both(x: bool, y: bool) -> bool
@@ -46,52 +47,41 @@ fn is_fed(numbers: &[usize], tag: Tag, at: usize) -> bool
 }
 
 // The row of a whole field with room goes to its place; whether it is then seen to pass every test but that of its names.
-pub fn see_row(
-    counts: Counts,
-    file: &[u8],
-    tag: Tag,
-    at: usize,
-    row: u32,
-    numbers: &mut [usize],
-    to: usize,
-) -> bool
-    requires { Placed counts tag row to }
-    ensures { RowRead counts file.now tag at row numbers.old numbers.new result }
+pub fn see_row(field: &Field, numbers: &mut [usize]) -> bool
+    ensures { RowRead field.now.counts field.now.file.now field.now.tag field.now.at field.now.row
+        numbers.old numbers.new result }
 {
-    if !is_ready(file, tag, at, to, numbers.len()) {
+    if !is_ready(field.file, field.tag, field.at, field.to, numbers.len()) {
         return false;
     }
     let from = Cursor {
-        byte: at + HEADER,
-        to,
+        byte: field.at + HEADER,
+        to: field.to,
         kept: true,
     };
-    let kept = read_body(file, tag, from, numbers);
-    let next = is_next(counts, numbers, tag, row, to);
-    both(kept, both(next, is_fed(numbers, tag, to)))
+    let kept = read_body(field.file, field.tag, from, numbers);
+    let next = is_next(field.counts, numbers, field.tag, field.row, field.to);
+    both(kept, both(next, is_fed(numbers, field.tag, field.to)))
 }
 
 // The same of an entry, of which a file has the most: with the tag named, its sizes and places are constants. Read by the routine of
 // all tags, as was tried, a full file takes 1.3 times as long.
-pub fn see_entry_row(
-    counts: Counts,
-    file: &[u8],
-    at: usize,
-    row: u32,
-    numbers: &mut [usize],
-    to: usize,
-) -> bool
-    requires { Placed counts Tag.Entry row to }
-    ensures { RowRead counts file.now Tag.Entry at row numbers.old numbers.new result }
+pub fn see_entry_row(field: &Field, numbers: &mut [usize]) -> bool
+    requires { field.now.tag ≡ Tag.Entry }
+    ensures { RowRead field.now.counts field.now.file.now Tag.Entry field.now.at field.now.row
+        numbers.old numbers.new result }
 {
-    if !is_ready(file, Tag::Entry, at, to, numbers.len()) {
+    if !is_ready(field.file, Tag::Entry, field.at, field.to, numbers.len()) {
         return false;
     }
     let from = Cursor {
-        byte: at + HEADER,
-        to,
+        byte: field.at + HEADER,
+        to: field.to,
         kept: true,
     };
-    let read = read_entry(file, from, numbers);
-    both(read.kept, is_next(counts, numbers, Tag::Entry, row, to))
+    let read = read_entry(field.file, from, numbers);
+    both(
+        read.kept,
+        is_next(field.counts, numbers, Tag::Entry, field.row, field.to),
+    )
 }

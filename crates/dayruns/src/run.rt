@@ -2,8 +2,8 @@
 ghost use Rattle.std.specs.Prelude.{◌≡◌};
 ghost use Rattle.dayfields.specs.Field.{Taken};
 ghost use Rattle.dayruns.specs.Run.{begun, Ran};
-ghost use Rattle.dayruns.specs.Private.{Placed};
 
+use crate::field::Field;
 use crate::glance::glance_at;
 use crate::names::{NOWHERE, Near};
 use dayfields::take_field;
@@ -36,28 +36,26 @@ fn begins(file: &[u8], tag: Tag, at: usize) -> bool
 }
 
 // The field at a byte, at a glance where it is seen to be sound, with its names looked for from some rows on.
-fn take_near(
-    source: Source,
-    counts: Counts,
-    file: &[u8],
-    tag: Tag,
-    at: usize,
-    row: u32,
-    numbers: &mut [usize],
-    to: usize,
-    near: Near,
-) -> Step
-    requires { Placed counts tag row to }
-    ensures { Taken source counts file.now tag at row numbers.old numbers.new result.found }
+fn take_near(source: Source, field: &Field, numbers: &mut [usize], near: Near) -> Step
+    ensures { Taken source field.now.counts field.now.file.now field.now.tag field.now.at field.now.row
+        numbers.old numbers.new result.found }
 {
-    let seen = glance_at(source, counts, file, tag, at, row, numbers, to, near);
+    let seen = glance_at(source, field, numbers, near);
     if seen.sound {
         return Step {
             found: Ok(()),
             near: seen.near,
         };
     }
-    let found = take_field(source, counts, file, tag, at, row, numbers);
+    let found = take_field(
+        source,
+        field.counts,
+        field.file,
+        field.tag,
+        field.at,
+        field.row,
+        numbers,
+    );
     Step { found, near }
 }
 
@@ -70,32 +68,34 @@ pub fn run_fields(
     at: usize,
     numbers: &mut [usize],
 ) -> Run
-    ensures { Ran
-        (record { source = source; counts = counts; file = file.now; at = at; tag = tag })
-        numbers.old
-        numbers.new
-        result }
+    ensures { Ran (record { source = source; counts = counts; file = file.now; at = at; tag = tag })
+        numbers.old numbers.new result }
 {
     let form = form_of(tag);
-    let size = HEADER + form.size;
     let mut to = row_place(counts, tag, 0);
     let mut near = NOWHERE;
     let mut rows = 0;
     let mut place = at;
+    // No `for`: the bytes say how many fields there are.
     while begins(file, tag, place) {
-        let step = take_near(source, counts, file, tag, place, rows, numbers, to, near);
+        let field = Field {
+            counts,
+            file,
+            tag,
+            at: place,
+            row: rows,
+            to,
+        };
+        let step = take_near(source, &field, numbers, near);
         let found = step.found;
         if found.is_err() {
             return Run { rows, place, found };
         }
         near = step.near;
         rows += 1;
-        place += size;
+        place += HEADER + form.size;
         to += form.columns;
     }
-    Run {
-        rows,
-        place,
-        found: Ok(()),
-    }
+    let found = Ok(());
+    Run { rows, place, found }
 }

@@ -3,7 +3,6 @@ use mathlib.Core.Path.{ap, sym, ◌∙◌}
 use Rattle.dayformat.specs.declared.form.Tag.TheVariants.{Entry}
 use Rattle.dayformat.proofs.Every.{byte_tells}
 use Rattle.dayruns.proofs.Glancing.{unseen}
-use Rattle.dayruns.proofs.RowReading.{placed_as}
 use Rattle.dayruns.proofs.glance.glance_at.Goals as goal
 
 pub returns-then-not-is_file : goal.returns-then-not-is_file
@@ -11,13 +10,12 @@ returns-then-not-is_file c = unseen _ _ _ _ _ _ _
 
 pub glance_at_entry-requires : goal.glance_at_entry-requires
 glance_at_entry-requires c =
-    placed_as c.args.counts c.args.row c.args.to
-    (byte_tells c.args.tag Entry (sym (ap (λ form. form.byte) c.form_of.ensures) ∙ c.if-form_of-eq-ENTRY_BYTE.true)) c.requires
+    byte_tells c.args.field.now.tag Entry (sym (ap (λ form. form.byte) c.form_of.ensures) ∙ c.if-form_of-eq-ENTRY_BYTE.true)
 
 pub returns-then-form_of-eq-ENTRY_BYTE : goal.returns-then-form_of-eq-ENTRY_BYTE
 returns-then-form_of-eq-ENTRY_BYTE c =
     rw (
-      byte_tells c.args.tag Entry (sym (ap (λ form. form.byte) c.form_of.ensures) ∙ c.if-form_of-eq-ENTRY_BYTE.true),
+      byte_tells c.args.field.now.tag Entry (sym (ap (λ form. form.byte) c.form_of.ensures) ∙ c.if-form_of-eq-ENTRY_BYTE.true),
       c.is_file.ensures c.if-not-is_file.false,
     )
     c.glance_at_entry.ensures

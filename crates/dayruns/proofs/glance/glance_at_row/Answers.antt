@@ -16,11 +16,11 @@ returns-then-not-see_row c = unsure _ _ _ _ _ _ _ c.see_row.ensures
 
 pub row_keyed_from-first-requires : goal.row_keyed_from-first-requires
 row_keyed_from-first-requires c =
-    name-inside c.see_row.ensures c.if-not-see_row.false c.requires.0 c.names_of-names.ensures 0 (0 is_a Head) (omega arith)
+    name-inside c.see_row.ensures c.if-not-see_row.false c.args.field.now.placed.0 c.names_of-names.ensures 0 (0 is_a Head) (omega arith)
 
 pub row_keyed_from-second-requires : goal.row_keyed_from-second-requires
 row_keyed_from-second-requires c =
-    name-inside c.see_row.ensures c.if-not-see_row.false c.requires.0 c.names_of-names.ensures 1 (0 is_a Head) (omega arith)
+    name-inside c.see_row.ensures c.if-not-see_row.false c.args.field.now.placed.0 c.names_of-names.ensures 1 (0 is_a Head) (omega arith)
 
 pub returns-then-count_of-first : goal.returns-then-count_of-first
 returns-then-count_of-first c = unsure _ _ _ _ _ _ _ c.see_row.ensures
@@ -30,13 +30,13 @@ returns-then-count_of-second c = unsure _ _ _ _ _ _ _ c.see_row.ensures
 
 pub is_under-requires : goal.is_under-requires
 is_under-requires c =
-    caps-inside c.see_row.ensures c.if-not-see_row.false c.requires.0 c.names_of-names.ensures (0 is_a Head)
+    caps-inside c.see_row.ensures c.if-not-see_row.false c.args.field.now.placed.0 c.names_of-names.ensures (0 is_a Head)
     (omega (arith, c.if-count_of-first.false, c.count_of.ensures))
 
 pub returns : goal.returns
 returns c =
-    let args = c.args in
-    let found : c.row_keyed_from-first.result < count args.counts (get_or c.names_of-names.result 0 (0 is_a Head)).tag =
+    let field = c.args.field.now in
+    let found : c.row_keyed_from-first.result < count field.counts (get_or c.names_of-names.result 0 (0 is_a Head)).tag =
     omega (arith, c.if-count_of-first.false, c.count_of.ensures) in
     let same = c.row_keyed_from-first.ensures found in
     let other = c.row_keyed_from-second.ensures (omega (arith, c.if-count_of-second.false, c.count_of-2.ensures)) in
@@ -44,9 +44,9 @@ returns c =
     (λ yes. (
       c.if-not-see_row.false,
       refl,
-      both-named args.counts _ args.tag args.row c.requires.0 (0 is_a Head) c.names_of-names.ensures
-          (keyed-listed args.counts _ _ _ _ found same)
-          (keyed-listed args.counts _ _ _ _ (omega (arith, c.if-count_of-second.false, c.count_of-2.ensures)) other),
-      first-caps args.counts _ args.tag args.row c.requires.0 (0 is_a Head) c.names_of-names.ensures
+      both-named field.counts _ field.tag field.row field.placed.0 (0 is_a Head) c.names_of-names.ensures
+          (keyed-listed field.counts _ _ _ _ found same)
+          (keyed-listed field.counts _ _ _ _ (omega (arith, c.if-count_of-second.false, c.count_of-2.ensures)) other),
+      first-caps field.counts _ field.tag field.row field.placed.0 (0 is_a Head) c.names_of-names.ensures
           found same (c.is_under.ensures yes),
     ))

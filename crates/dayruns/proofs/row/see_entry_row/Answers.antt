@@ -5,7 +5,7 @@ use native.Mathlib.Omega.{arith}
 use Rattle.dayformat.specs.declared.form.Tag.TheVariants.{Entry}
 use Rattle.dayrows.specs.Test.{some_idle}
 use Rattle.dayruns.proofs.BodyReading.{body-read}
-use Rattle.dayruns.proofs.RowReading.{ready-room, unread, row_plain}
+use Rattle.dayruns.proofs.RowReading.{placed_as, ready-room, unread, row_plain}
 use Rattle.dayruns.proofs.row.see_entry_row.Goals as goal
 
 pub returns-then-not-is_ready : goal.returns-then-not-is_ready
@@ -20,11 +20,11 @@ read_entry-read-requires c = ready-room _ _ _ _ true _ (c.is_ready.ensures c.if-
 
 pub is_next-requires : goal.is_next-requires
 is_next-requires c =
-    (c.requires.0, omega (arith, (c.is_ready.ensures c.if-not-is_ready.false).1, c.read_entry-read.auto.numbers))
+    ((placed_as _ _ _ c.requires c.args.field.now.placed).0, omega (arith, (c.is_ready.ensures c.if-not-is_ready.false).1, c.read_entry-read.auto.numbers))
 
 pub returns : goal.returns
 unfolding some_idle
 returns c =
     let ready = c.is_ready.ensures c.if-not-is_ready.false in
-    row_plain _ _ Entry _ _ _ c.requires.0 ready
+    row_plain _ _ Entry _ _ _ (placed_as _ _ _ c.requires c.args.field.now.placed).0 ready
     (body-read Entry c.read_entry-read.ensures (ready-room _ _ _ _ true _ ready)) c.is_next.ensures refl c.both.ensures

@@ -17,12 +17,12 @@ read_body-kept-requires c = ready-room _ _ _ _ true _ (c.is_ready.ensures c.if-n
 
 pub is_next-next-requires : goal.is_next-next-requires
 is_next-next-requires c =
-    (c.requires.0, omega (arith, (c.is_ready.ensures c.if-not-is_ready.false).1, c.read_body-kept.auto.numbers))
+    (c.args.field.now.placed.0, omega (arith, (c.is_ready.ensures c.if-not-is_ready.false).1, c.read_body-kept.auto.numbers))
 
 pub is_fed-requires : goal.is_fed-requires
 is_fed-requires c = omega (arith, (c.is_ready.ensures c.if-not-is_ready.false).1, c.read_body-kept.auto.numbers)
 
 pub returns : goal.returns
 returns c =
-    row_read _ _ _ _ _ _ c.requires.0 (c.is_ready.ensures c.if-not-is_ready.false) c.read_body-kept.ensures c.is_next-next.ensures
+    row_read _ _ _ _ _ _ c.args.field.now.placed.0 (c.is_ready.ensures c.if-not-is_ready.false) c.read_body-kept.ensures c.is_next-next.ensures
     c.is_fed.ensures (c.both-2.ensures ∙ rw c.both.ensures)

@@ -17,16 +17,11 @@ near : (counts : Counts) (tag : Tag) {rows to start : ℕ} → rows ≤ (form ta
 near counts tag {rows} inside here begins =
     omega (arith, here, begins, rows-small tag rows (omega (arith, inside, (small tag).most)))
 
-pub overflow_add-size : goal.overflow_add-size
-overflow_add-size c = omega (arith, ap (λ form. form.size) c.form_of-form.ensures, (small c.args.tag).size)
+pub overflow_add-place : goal.overflow_add-place
+overflow_add-place c = omega (arith, ap (λ form. form.size) c.form_of-form.ensures, (small c.args.tag).size)
 
 pub loop-source-init : goal.loop-source-init
 loop-source-init c = (going_none _ _, c.row_place-to.ensures.0)
-
-pub take_near-step-requires : goal.take_near-step-requires
-take_near-step-requires c =
-    let l = near _ _ c.loop-source.invariant.0.searched.inside c.loop-source.invariant.1 c.row_place-to.ensures in
-    (c.loop-source.invariant.1, omega (arith, l))
 
 pub shape_of-numbers-then-is_err : goal.shape_of-numbers-then-is_err
 shape_of-numbers-then-is_err c =
@@ -46,8 +41,8 @@ overflow_add-rows c =
       (small c.args.tag).most,
     )
 
-pub overflow_add-place : goal.overflow_add-place
-overflow_add-place c =
+pub overflow_add-place-in-loop-source : goal.overflow_add-place-in-loop-source
+overflow_add-place-in-loop-source c =
     omega (
       arith,
       going_there _ _ c.loop-source.invariant.0 (sym c.begins.ensures ∙ c.loop-source-test.true)
