@@ -18,8 +18,8 @@ pub trait Answers {
     fn answer<W: Write>(out: &mut W, case: &[u8]) -> io::Result<()>;
 }
 
-// Answers each case on a line of its own. A proved loop has to end, and nothing says that the input does: it takes at most so many turns
-// as no run uses up.
+// Answers each case on a line of its own. Each program's `main` lends it a block as long as its cases are. A proved loop has to end,
+// and nothing says that the input does: it takes at most so many turns as no run uses up.
 pub fn answer_cases<A: Answers, R: Read, W: Write>(
     input: &mut R,
     out: &mut W,

@@ -7,7 +7,7 @@ use borrow.Author.Tests.{le-leb, lt-leb}
 use Rattle.units.specs.declared.Rate.{Rate}
 use Rattle.units.specs.declared.refusal.Refusal.{Refusal}
 use Rattle.units.specs.Bound.{most_rate}
-use Rattle.units.specs.Refusals.{plain, ◌then◌, keep, first_refusal}
+use Rattle.units.specs.Refusals.{plain, keep, first_refusal}
 use Rattle.lines.specs.Answer.{ListingAnswered, listing_check}
 use Rattle.dayruns.specs.Walk.{file_check}
 use Rattle.dayfile.specs.File.{walked}

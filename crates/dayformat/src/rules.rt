@@ -28,7 +28,7 @@ pub struct Cap {
 }
 
 // How many names a row has at most. What fills up fewer says nothing: the head's key is empty.
-// The contract of `names_of` and `mdqs_of` is an array's and may not change: dayruns reads its places.
+// Names and MDQs stay arrays of one length, filled up: dayruns reads both places, which a slice would make cases by its length.
 pub const NAMES: usize = 2;
 
 const NO_NAME: Name = Name {

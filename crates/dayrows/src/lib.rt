@@ -41,7 +41,7 @@ pub enum Test {
     Mdq,
 }
 
-// The first of 3, 5 and 4 that a row is refused by.
+// The first of 3, 5 and 4 that a row is refused by. Which row it is stays a number: it may be one too many, and its key has one before.
 #[tactic(auto, unfolding(crate::specs::Test::fault), using(crate::proofs::Faults::mdq_any))]
 pub fn row_fault(source: Source, tables: Tables, tag: Tag, row: u32) -> Result<(), Fault>
     ensures { result ≡ fault source tables.entry.counts (col tables.entry.numbers.now) tag row }

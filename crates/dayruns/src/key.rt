@@ -23,7 +23,8 @@ fn is_less(numbers: &[usize], key: usize, one: usize, other: usize) -> bool
     false
 }
 
-// Whether there may be such a row, which stands at a place, and its key is greater than that of the row before.
+// Whether there may be such a row, which stands at a place, and its key is greater than that of the row before. The numbers are being
+// written, so that the `Tables` of a day would be made anew for each row.
 pub fn is_next(counts: Counts, numbers: &[usize], tag: Tag, row: u32, here: usize) -> bool
     requires { (here ≡ row_start counts tag row) × (here + (form tag).columns ≤ length numbers.now) }
     ensures { result ≡ cond (ltb row (form tag).most) (rises counts (col numbers.now) tag row) false }

@@ -10,7 +10,7 @@ use dayfields::take_field;
 use dayformat::{Counts, HEADER, Tag, form_of, row_place};
 use dayrows::{Fault, Source};
 
-// How many sound fields there are, where they end, and what is found there.
+// How many sound fields there are, where they end, and what is found there. All three are told on a fault too.
 #[derive(Clone, Copy)]
 pub struct Run {
     pub rows: u32,

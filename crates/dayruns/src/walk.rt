@@ -6,7 +6,7 @@ use dayformat::{Counts, HEADER};
 use dayrows::Fault;
 use units::Refusal;
 
-// What is found so far; where the first fault is, or how far is read; and the rows before.
+// What is found so far; where the first fault is, or how far is read; and the rows before. Both are told on a fault too.
 #[derive(Clone, Copy)]
 pub struct Walk {
     pub found: Result<(), Fault>,

@@ -7,7 +7,7 @@ use dayformat::{Tag, column_at, count_of, numbers_of, row_place};
 use dayrows::{Tables, is_bounded, is_within, number_of, row_of};
 use units::{Refusal, clear, keep};
 
-// The number at a place of a row, 0 past the list.
+// The number at a place of a row, 0 past the list. A row is untested here, so it stays a number beside its tables.
 pub fn number_at(tables: Tables, tag: Tag, row: u32, place: u32) -> usize
     ensures { result ≡ number_at tables.entry.counts (col tables.entry.numbers.now) tag row place }
 {

@@ -22,7 +22,7 @@ pub fn put_written_numbers<W: Write>(out: &mut W, lent: &[usize]) -> Result<()> 
     put_kept(out, lent.len() - written)
 }
 
-// Bytes in hexadecimal.
+// The same of bytes, which print in hexadecimal.
 pub fn put_written_bytes<W: Write>(out: &mut W, lent: &[u8]) -> Result<()> {
     let written = written(lent, LENT_BYTE);
     put_block(out, &lent[..written])?;

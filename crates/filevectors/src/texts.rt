@@ -1,4 +1,4 @@
-// Texts: the line of a refusal, and the listings.
+// Texts: the line of a refusal, and the listings. A function for each routine, which says where its figures stand.
 use crate::lent::{LENT_BYTE, MOST_BYTES, put_written_bytes};
 use cases::{bytes, past, put_answer, wide, word, word_within};
 use std::io::{self, Write};

@@ -24,7 +24,7 @@ pub fn put_totalled<W: Write>(out: &mut W, routine: &[u8], totalled: Totalled) -
     put_account(out, totalled.account)
 }
 
-// A text's size, and the block that was lent for it.
+// A text's size, zero where it is refused, and the block that was lent for it, whole.
 pub fn put_listing<W: Write>(
     out: &mut W,
     routine: &[u8],

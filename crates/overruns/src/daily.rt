@@ -9,7 +9,7 @@ use crate::gas::gas_of;
 use metered::{Side, bare_hours, examine_hours, examine_sides, excess};
 use units::{Megajoules, Refusal, in_megajoules};
 
-// The daily overruns of both sides.
+// The daily overruns of both sides. Here, hourly and twelve-hourly a routine takes its clause's figures alone, and no day of them all.
 #[derive(Clone, Copy)]
 pub struct Daily {
     pub receipt: Megajoules,

@@ -14,7 +14,7 @@ fn is_beyond(foundation: usize, rows: usize) -> bool
     rows <= foundation && foundation != NO_FOUNDATION
 }
 
-// The first of the tests that the input fails, with room for so many shares.
+// The first of the tests that the input fails, with room for so many shares. What is untested stands apart; tested, it is a `Sharing`.
 #[tactic(auto, unfolding(crate::specs::General::general_check, units::specs::Refusals::first_refusal))]
 pub fn examine(
     gas: u64,

@@ -1,4 +1,4 @@
-// A day's excused gas: a row's tests, its shipper and its hours, and the row of a shipper.
+// A day's excused gas: a row's tests, its shipper and its hours, and the row of a shipper. A function for each routine, as with meters.
 use crate::day::Given;
 use crate::meters::{put_today, put_yesterday};
 use cases::{put_answer, word, word_within};

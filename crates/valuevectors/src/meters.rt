@@ -1,4 +1,4 @@
-// A day's meters: a row's tests, its figures and its hours.
+// A day's meters: a row's tests, its figures and its hours. A function for each routine, which says where its figures stand.
 use crate::day::{Given, LENT, MOST_ROWS};
 use cases::{put_answer, put_figures, put_list, word, word_within};
 use daymeters::MeterFigures;

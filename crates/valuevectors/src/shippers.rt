@@ -45,7 +45,11 @@ pub fn answer_shares<W: Write>(out: &mut W, given: Given) -> Result<()> {
         &mut auction[..auction_room],
         &mut lower_tier[..lower_tier_room],
     );
-    put_answer(out, b"share_numbers", shared.map(figures_of))?;
+    put_answer(
+        out,
+        b"share_numbers",
+        shared.map(|shares| figures_of(shares)),
+    )?;
     put_list(out, &firm[..firm_room])?;
     put_list(out, &auction[..auction_room])?;
     put_list(out, &lower_tier[..lower_tier_room])

@@ -37,7 +37,7 @@ pub fn answer_day<W: Write>(out: &mut W, given: &[u8]) -> io::Result<()> {
         &mut auction[..auction_room],
         &mut lower_tier[..lower_tier_room],
     );
-    put_answer(out, b"share_day", day.map(figures_of))?;
+    put_answer(out, b"share_day", day.map(|shares| figures_of(shares)))?;
     put_list(out, &firm[..firm_room])?;
     put_list(out, &auction[..auction_room])?;
     put_list(out, &lower_tier[..lower_tier_room])
