@@ -1,12 +1,16 @@
 -- A case as words of four bytes, a day of its words, and a day's shares as the line of an answer has them.
-use Rattle.std.specs.Prelude.{ℕ, List, [], ◌∷◌, ◌*◌, take, drop}
+use Rattle.std.specs.Prelude.{ℕ, List, [], ◌∷◌, ◌*◌, ◌/◌, cond, ltb, length, take, drop}
 use Rattle.bigendian.specs.Number.{value}
 use Rattle.dayformat.specs.declared.day.Day.{Day}
 use Rattle.dayshares.specs.declared.Shares.{Shares}
 
--- the word at a place, 0 past the end
+-- what follows so many words, nothing where no whole word does
+abbrev pub past_words : List ℕ → ℕ → List ℕ
+past_words case count = cond (ltb count (length case / 4)) (drop (4 * count) case) []
+
+-- the word at a place, 0 past the last whole one
 abbrev pub word_at : List ℕ → ℕ → ℕ
-word_at case place = value (take 4 (drop (4 * place) case))
+word_at case place = value (take 4 (past_words case place))
 
 -- the day's head and counts, a word each
 abbrev pub day_at : List ℕ → Day

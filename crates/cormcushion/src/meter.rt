@@ -118,7 +118,7 @@ fn figures_of(over: Overruns) -> [u64; 5]
     ]
 }
 
-// The charge for overruns.
+// The charge for overruns. Rate and lent list stay apart, as C hands them in, here and below.
 fn price(rate: u32, over: Overruns, lent: &mut [u64; 5]) -> u64
     ensures value { result ≡ of_charge (overrun_charge (rate_of rate) over.greatest) }
     ensures lent_after { lent.new ≡ with_charge (overrun_charge (rate_of rate) over.greatest) over lent.old }

@@ -13,6 +13,7 @@ use dayruns::{Walk, run_fields};
 fn begin(file: &[u8]) -> Walk
     ensures { result ≡ headed file.now }
 {
+    // No heap: the head's three numbers.
     let mut row = [0usize; 3];
     let found = take_field(Source::File, NO_ROWS, file, Tag::Head, 0, 0, &mut row);
     if found.is_err() {

@@ -73,7 +73,7 @@ pub fn meter_hours(tables: Tables, row: u32) -> [[Megajoules; 24]; 2]
     today_of(tables, Tag::Meter, row, METERED)
 }
 
-// The 35 delivered hours of both days, which stand one after another.
+// The 35 delivered hours of both days, which stand one after another. The hour is what is asked for, so the loop is over hours.
 fn fill_delivered(tables: Tables, row: u32, out: &mut [u64])
     requires { 35 ≤ length out.old }
     ensures { out.new ≡ with_delivered tables.entry.counts (col tables.entry.numbers.now) row out.old }

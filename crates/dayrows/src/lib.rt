@@ -26,7 +26,8 @@ pub use mdqs::is_idle;
 pub use row::{Row, row_of};
 pub use tables::Tables;
 
-// Where rows stand: in a day's file or block, or in a list of the entries of one side. No closure: `passes` and `fault` speak of it.
+// Where rows stand: in a day's file or block, or in a list of the entries of one side. No closure: `passes` and `fault` speak of it. A side
+// is compared with a row's number.
 #[derive(Clone, Copy)]
 pub enum Source {
     File,

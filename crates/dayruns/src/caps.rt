@@ -21,7 +21,7 @@ fn are_under(numbers: &[usize], many: usize, one: usize, other: usize) -> bool
     kept
 }
 
-// The same of a row at a place and the row of another table that caps it, where any does.
+// The same of a row at a place and the row of another table that caps it, where any does. Counts and numbers apart, as in key.rt.
 pub fn is_under(
     counts: Counts,
     numbers: &[usize],

@@ -10,7 +10,7 @@ use crate::row::{see_entry_row, see_row};
 use dayformat::{ENTRY_BYTE, Tag, count_of, form_of, names_of};
 use dayrows::Source;
 
-// Whether a field is seen to be sound, and the rows that its names were found in.
+// Whether a field is seen to be sound, and the rows that its names were found in. The numbers stay beside a field: it is written to them.
 #[derive(Clone, Copy)]
 pub struct Glance {
     pub sound: bool,

@@ -33,7 +33,7 @@ fn shipper_from(numbers: &[usize], rows: usize, from: usize, name: usize) -> usi
     rows
 }
 
-// The first point's row, from one on, that has a side and a name, or how many rows there are.
+// The first point's row, from one on, that has a side and a name, numbers both, or how many rows there are.
 fn point_from(
     numbers: &[usize],
     start: usize,

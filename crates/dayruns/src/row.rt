@@ -21,7 +21,7 @@ fn both(x: bool, y: bool) -> bool
     false
 }
 
-// Whether a field is whole, and its row, which stands at a place, has room.
+// Whether a field is whole, and its row, which stands at a place, has room. No `Field` is asked for what is asked of bytes alone.
 fn is_ready(file: &[u8], tag: Tag, at: usize, to: usize, room: usize) -> bool
     requires { to < 2 ^ 43 }
     ensures { result ≡ true → Ready file.now tag at to room }

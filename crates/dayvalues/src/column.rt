@@ -9,7 +9,7 @@ use dayformat::{Tag, numbers_of};
 use dayrows::Tables;
 use units::{Refusal, clear, keep};
 
-// In tag 2's order.
+// In tag 2's order. No closure: `place_of` and `ColumnAnswered` speak of a column by its name.
 #[derive(Clone, Copy)]
 pub enum ShipperColumn {
     FirmMdq,

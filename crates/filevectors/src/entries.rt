@@ -2,6 +2,7 @@
 use cases::{bytes, past, past_bytes, put_answer, put_block, word_within};
 use std::io::{Result, Write};
 
+// As a number: any may be asked for.
 fn side_of(given: &[u8]) -> u8 {
     word_within(given, 0, 255) as u8
 }

@@ -10,19 +10,20 @@ pub const LENT_NUMBER: usize = 4_000_000_000;
 // What a lent byte is.
 pub const LENT_BYTE: u8 = 255;
 
-// No block of numbers has more room: one more than a full day has.
+// No block of numbers has more room: one more than a full day has. Blocks are arrays, for there is no heap.
 pub const MOST_NUMBERS: usize = dayformat::MOST_NUMBERS + 1;
 
 // No block of bytes: one more than a full day's file has, and no listing is as long.
 pub const MOST_BYTES: usize = dayformat::MOST_BYTES + 1;
 
+// What was written to a block of numbers, and how many stay; below the same of bytes, which print otherwise.
 pub fn put_written_numbers<W: Write>(out: &mut W, lent: &[usize]) -> Result<()> {
     let written = written(lent, LENT_NUMBER);
     put_list(out, &lent[..written])?;
     put_kept(out, lent.len() - written)
 }
 
-// The same of bytes, which print in hexadecimal.
+// Bytes in hexadecimal.
 pub fn put_written_bytes<W: Write>(out: &mut W, lent: &[u8]) -> Result<()> {
     let written = written(lent, LENT_BYTE);
     put_block(out, &lent[..written])?;

@@ -32,6 +32,7 @@ impl Answers for Files {
     }
 }
 
+// Each program of cases has a `main` of its own, for the block that it lends.
 fn main(rt: HostRuntime) -> Result<()> {
     let mut lent = [0u8; MOST_BYTES];
     answer_cases::<Files, _, _>(&mut rt.stdin(), &mut rt.stdout(), &mut lent)

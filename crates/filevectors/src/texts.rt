@@ -4,7 +4,7 @@ use cases::{bytes, past, put_answer, wide, word, word_within};
 use std::io::{self, Write};
 use units::{Rate, Refusal};
 
-// How many bytes the text has, and the lent block.
+// How many bytes the text has, and what was written to the lent block, of which monthvectors prints all.
 pub fn put_text<W: Write>(
     out: &mut W,
     routine: &[u8],

@@ -25,6 +25,7 @@ pub fn bare_hours(row: [Megajoules; 24]) -> [u64; 24]
 pub fn both_days(yesterday: [Megajoules; 11], today: [Megajoules; 24]) -> [u64; 35]
     ensures { result ≡ both_days yesterday today }
 {
+    // No heap: both days in an array.
     let mut hours = [0u64; 35];
     hours[..11].copy_from_slice(&numbers_of(yesterday));
     hours[11..].copy_from_slice(&numbers_of(today));

@@ -9,7 +9,7 @@ use units::Refusal;
 // What a lent byte is before the call.
 pub const LENT_BYTE: u8 = 255;
 
-// No block has more room: one byte more than the longest statement.
+// No block has more room: one byte more than the longest statement. Blocks are arrays, for there is no heap.
 pub const MOST_ROOM: usize = month::MOST_STATEMENT + 1;
 
 // An account after a day was handed in.

@@ -3,7 +3,7 @@ use crate::answers::{LENT_BYTE, MOST_ROOM, put_listing};
 use cases::{past, wide, word_within};
 use std::io::{Result, Write};
 
-// No list has more: 33 rows.
+// No list has more: 33 rows, in an array.
 const MOST_NUMBERS: usize = 264;
 
 pub fn answer_list<W: Write>(out: &mut W, given: &[u8]) -> Result<()> {

@@ -33,6 +33,7 @@ impl Answers for Months {
     }
 }
 
+// Each program of cases has a `main` of its own, for the block that it lends.
 fn main(rt: HostRuntime) -> Result<()> {
     let mut lent = [0u8; 4 * MOST_WORDS];
     answer_cases::<Months, _, _>(&mut rt.stdin(), &mut rt.stdout(), &mut lent)

@@ -14,7 +14,7 @@ use dayrows::{Source, number_of};
 use dayruns::{Walk, run_fields};
 use units::{Refusal, keep};
 
-// How many numbers a list has at most.
+// How many numbers a list has at most: an array, for there is no heap. A side is a number below, as the format and C have it.
 const MOST_NUMBERS: usize = MOST_ENTRIES as usize * ENTRY_COLUMNS;
 
 // A list of one side's entries walked through. Their rows go into the numbers.

@@ -9,7 +9,7 @@ use bigendian::number_at;
 use dayformat::{ENTRY_FIELD, HEADER, HOUR, NAME, SIDE, Tag};
 use dayrows::Tables;
 
-// How many entries a file has at most.
+// How many entries a file has at most. Lists of them are arrays, for there is no heap.
 pub const MOST_ENTRIES: usize = dayformat::MOST_ENTRIES as usize;
 
 // Where an entry's shipper stands in its field, behind side and point, and its reserved entitlement.

@@ -13,7 +13,7 @@ use pointentries::entries_of_point;
 use pointhours::put_hour;
 use units::Megajoules;
 
-// POINT, side, point, capacity.
+// POINT, side, point, capacity: figures all.
 fn put_title(side: u64, point: u64, capacity: u64, text: &mut [u8], at: usize) -> usize
     requires { at ≤ length text.old + 2 ^ 31 }
     ensures { (Laid (point_line side point capacity) text.old at result text.new) × (result ≤ 4096) }

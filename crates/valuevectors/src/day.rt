@@ -8,7 +8,7 @@ use dayrows::Tables;
 // What a lent list holds before the call: no answer has it.
 pub const LENT: u32 = 4_000_000_000;
 
-// No lent list has more room: one more than a list of shippers may have.
+// No lent list has more room: one more than a list of shippers may have. Lists are arrays, for there is no heap.
 pub const MOST_ROWS: usize = 65;
 
 // No day has more numbers: one more than a full one.

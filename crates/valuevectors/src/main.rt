@@ -30,6 +30,7 @@ impl Answers for Values {
     }
 }
 
+// Each program of cases has a `main` of its own, for the block that it lends.
 fn main(rt: HostRuntime) -> Result<()> {
     let mut lent = [0u8; MOST_BYTES];
     answer_cases::<Values, _, _>(&mut rt.stdin(), &mut rt.stdout(), &mut lent)

@@ -4,7 +4,7 @@ use cases::{put_answer, word};
 use dayformat::Tag;
 use std::io::{Result, Write};
 
-// The tables' tags: 2 to 5, and 9.
+// The tables' tags: 2 to 5, and 9. Numbers of a case to an enum, and for columns to another.
 fn tag_of(tag: u32) -> Tag {
     match tag {
         2 => Tag::Shipper,

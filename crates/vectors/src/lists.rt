@@ -3,7 +3,7 @@ ghost use Rattle.std.specs.Prelude.{◌≤◌};
 
 use cases::{past, wide, word, word_within};
 
-// No case has more words.
+// No case has more words. Lists are arrays, for there is no heap.
 pub const MOST_WORDS: usize = 512;
 
 // No list of 64 bits has more rows, and no lent list more room: one more than a list of shippers may have.

@@ -37,6 +37,7 @@ impl Answers for Rules {
     }
 }
 
+// Each program of cases has a `main` of its own, for the block that it lends.
 fn main(rt: HostRuntime) -> Result<()> {
     let mut lent = [0u8; 4 * MOST_WORDS];
     answer_cases::<Rules, _, _>(&mut rt.stdin(), &mut rt.stdout(), &mut lent)

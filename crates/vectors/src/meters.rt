@@ -8,7 +8,7 @@ use overruns::{ExcusedHours, Overruns, ShipperDay};
 use std::io::{Result, Write};
 use units::{Gigajoules, Megajoules};
 
-// Hours, a pair of words each: yesterday's 11, or the 24 of one side.
+// Hours, a pair of words each: yesterday's 11, or the 24 of one side. The hour is what is asked for, so the loop is over hours.
 fn hours_of<const N: usize>(given: &[u8]) -> [Megajoules; N]
     requires { N ≤ 24 }
 {
