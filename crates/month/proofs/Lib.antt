@@ -7,3 +7,5 @@ pub mod Closing
 pub mod Worked
 pub mod Decided
 pub mod Determined
+pub mod TakingOff
+pub mod Testing

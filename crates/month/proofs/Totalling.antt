@@ -22,11 +22,11 @@ use Rattle.month.proofs.Accepting.{at_each, figures-kept, days-kept}
 use Rattle.units.specs.Refusals.{Check}
 
 -- ---- figure by figure
-figure_by : (f : ℕ → ℕ) (place : ℕ) → place < 7 → figure (figures_by f) place ≡ f place
+pub figure_by : (f : ℕ → ℕ) (place : ℕ) → place < 7 → figure (figures_by f) place ≡ f place
 unfolding listed
 figure_by f place l = col-listed 7 f place l
 
-same : (f g : ℕ → ℕ) → ((place : ℕ) → place < 7 → f place ≡ g place) → figures_by f ≡ figures_by g
+pub same : (f g : ℕ → ℕ) → ((place : ℕ) → place < 7 → f place ≡ g place) → figures_by f ≡ figures_by g
 same f g all =
     rw (
       all 0 (omega arith),
@@ -60,7 +60,7 @@ module _ (days : ℕ → AccountDay) where
   summed-most n accepted place l = some-most n n accepted (le_refl n) place l
 
 -- no figure has more than twelve digits
-most-low : (place : ℕ) → place < 7 → col figure_bounds place ≤ 100_000_000_000
+pub most-low : (place : ℕ) → place < 7 → col figure_bounds place ≤ 100_000_000_000
 most-low = at_each _ (omega arith) (omega arith) (omega arith) (omega arith) (omega arith) (omega arith) (omega arith)
 
 -- ---- the days added up one after another, as a loop does
