@@ -14,12 +14,21 @@ pub const MOST_ROWS: usize = 65;
 // No day has more numbers: one more than a full one.
 const MOST_NUMBERS: usize = dayformat::MOST_NUMBERS + 1;
 
-// What a routine is given: a day, its tables, and what else the case has.
+// What a routine is given: a day, its numbers, and what else the case has.
 #[derive(Clone, Copy)]
 pub struct Given<'a> {
     pub day: Day,
-    pub tables: Tables<'a>,
+    pub numbers: &'a [usize],
     pub rest: &'a [u8],
+}
+
+impl<'a> Given<'a> {
+    pub fn tables(self) -> Tables<'a> {
+        Tables {
+            counts: self.day.counts,
+            numbers: self.numbers,
+        }
+    }
 }
 
 // How many numbers it has.

@@ -8,9 +8,8 @@ mod rows;
 mod shippers;
 mod texts;
 
-use cases::{Answers, answer_cases, past, word};
-use day::{Given, day_of, length_of, numbers_of, past_day};
-use dayrows::Tables;
+use cases::{Answers, answer_cases, day_of, past, word};
+use day::{Given, length_of, numbers_of, past_day};
 use std::io::{Result, Write};
 
 // No case has more bytes: what a large buffer holds.
@@ -41,10 +40,7 @@ fn answer_day<W: Write>(out: &mut W, routine: u32, case: &[u8]) -> Result<()> {
     let day = day_of(case);
     let given = Given {
         day,
-        tables: Tables {
-            counts: day.counts,
-            numbers: &numbers[..length_of(case)],
-        },
+        numbers: &numbers[..length_of(case)],
         rest: past_day(case),
     };
     match routine {

@@ -7,12 +7,12 @@ use std::io::{Result, Write};
 use units::Megajoules;
 
 pub fn answer_check<W: Write>(out: &mut W, given: Given) -> Result<()> {
-    let check = daymeters::check_meter(given.tables, word(given.rest, 0));
+    let check = daymeters::check_meter(given.tables(), word(given.rest, 0));
     put_answer(out, b"check_meter", check.map(|()| []))
 }
 
 pub fn answer_figures<W: Write>(out: &mut W, given: Given) -> Result<()> {
-    let row = daymeters::meter_figures(given.tables, word(given.rest, 0));
+    let row = daymeters::meter_figures(given.tables(), word(given.rest, 0));
     put_answer(out, b"meter_figures", row.map(figures_of))
 }
 
@@ -33,7 +33,7 @@ fn figures_of(meter: MeterFigures) -> [u64; 9] {
 }
 
 pub fn answer_yesterday<W: Write>(out: &mut W, given: Given) -> Result<()> {
-    let hours = daymeters::meter_yesterday(given.tables, word(given.rest, 0));
+    let hours = daymeters::meter_yesterday(given.tables(), word(given.rest, 0));
     put_yesterday(out, b"meter_yesterday", hours)
 }
 
@@ -45,7 +45,7 @@ pub fn put_yesterday<W: Write>(out: &mut W, routine: &[u8], hours: [Megajoules; 
 }
 
 pub fn answer_hours<W: Write>(out: &mut W, given: Given) -> Result<()> {
-    let hours = daymeters::meter_hours(given.tables, word(given.rest, 0));
+    let hours = daymeters::meter_hours(given.tables(), word(given.rest, 0));
     put_today(out, b"meter_hours", hours)
 }
 
@@ -62,7 +62,7 @@ pub fn answer_delivered<W: Write>(out: &mut W, given: Given) -> Result<()> {
     let mut lent = [u64::from(LENT); MOST_ROWS];
     let room = word_within(given.rest, 1, MOST_ROWS);
     let row = word(given.rest, 0);
-    let check = daymeters::meter_delivered(given.tables, row, &mut lent[..room]);
+    let check = daymeters::meter_delivered(given.tables(), row, &mut lent[..room]);
     put_answer(out, b"meter_delivered", check.map(|()| []))?;
     put_list(out, &lent[..room])
 }

@@ -1,6 +1,6 @@
 // The columns of a day's shippers, and their shares.
 use crate::day::{Given, LENT, MOST_ROWS};
-use cases::{put_answer, put_list, wide, word, word_within};
+use cases::{figures_of, put_answer, put_list, wide, word, word_within};
 use dayvalues::ShipperColumn;
 use std::io::{Result, Write};
 
@@ -18,7 +18,7 @@ fn column_of(place: u32) -> ShipperColumn {
 pub fn answer_check<W: Write>(out: &mut W, given: Given) -> Result<()> {
     let column = column_of(word(given.rest, 0));
     let room = wide(given.rest, 1) as usize;
-    let check = dayvalues::check_column(given.tables, column, room);
+    let check = dayvalues::check_column(given.tables(), column, room);
     put_answer(out, b"check_column", check.map(|()| []))
 }
 
@@ -26,7 +26,7 @@ pub fn answer_column<W: Write>(out: &mut W, given: Given) -> Result<()> {
     let mut lent = [LENT; MOST_ROWS];
     let column = column_of(word(given.rest, 0));
     let room = word_within(given.rest, 1, MOST_ROWS);
-    let listed = dayvalues::shipper_column(given.tables, column, &mut lent[..room]);
+    let listed = dayvalues::shipper_column(given.tables(), column, &mut lent[..room]);
     put_answer(out, b"shipper_column", listed.map(|rows| [rows as u64]))?;
     put_list(out, &lent[..room])
 }
@@ -40,7 +40,7 @@ pub fn answer_shares<W: Write>(out: &mut W, given: Given) -> Result<()> {
     let lower_tier_room = word_within(given.rest, 2, MOST_ROWS);
     let shared = numbershares::share_numbers(
         given.day,
-        given.tables.numbers,
+        given.numbers,
         &mut firm[..firm_room],
         &mut auction[..auction_room],
         &mut lower_tier[..lower_tier_room],

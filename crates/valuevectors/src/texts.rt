@@ -17,7 +17,7 @@ pub fn answer_hour<W: Write>(out: &mut W, given: Given) -> Result<()> {
     let room = word_within(given.rest, 4, MOST_BYTES);
     let part = bytes(past(given.rest, 5));
     let block = &mut lent[..room];
-    let size = pointhours::put_hour(given.tables, part, capacity, block, at);
+    let size = pointhours::put_hour(given.tables(), part, capacity, block, at);
     put_answer(out, b"put_hour", Ok([size as u64]))?;
     put_block(out, &lent[..room])
 }
