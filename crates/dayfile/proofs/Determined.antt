@@ -8,6 +8,7 @@ use Rattle.dayfile.specs.Answer.{ReadingAnswered}
 use Rattle.dayformat.specs.declared.day.Day.{Day}
 use Rattle.units.specs.declared.refusal.Refusal.{Refusal}
 
-pub reading_determined : {file lent l₁ l₂ : List ℕ} {r₁ r₂ : Result Day Refusal} → ReadingAnswered file lent l₁ r₁ → ReadingAnswered file lent l₂ r₂
+pub reading_determined : {file lent l₁ l₂ : List ℕ} {r₁ r₂ : Result Day Refusal}
+    → ReadingAnswered file lent l₁ r₁ → ReadingAnswered file lent l₂ r₂
     → (r₁ ≡ r₂) × (l₁ ≡ l₂)
 reading_determined a b = (determined a.answers b.answers, determined a.leaves b.leaves)

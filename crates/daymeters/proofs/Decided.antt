@@ -24,7 +24,8 @@ pub meter_decided : (counts : Counts) (numbers : List ℕ) (row : ℕ) {found : 
     → Decided (meter_check counts numbers row) tt tt (of_check found)
 meter_decided counts numbers row = checked (row_numbered counts numbers row Meter)
 
-pub figures_decided : (counts : Counts) (numbers : List ℕ) (row : ℕ) {meter : Result MeterFigures Refusal} → meter ≡ meter_answer counts numbers row
+pub figures_decided : (counts : Counts) (numbers : List ℕ) (row : ℕ) {meter : Result MeterFigures Refusal}
+    → meter ≡ meter_answer counts numbers row
     → Decided (meter_check counts numbers row) (figures_of counts (col numbers) row) no_figures (meter_verdict meter)
 figures_decided counts numbers row = decided meter_where meter_verdict refl (λ refusal. refl) (row_numbered counts numbers row Meter)
 

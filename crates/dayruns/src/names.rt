@@ -3,7 +3,7 @@ ghost use Rattle.std.specs.Prelude.{◌≡◌, true, ◌+◌, ◌*◌, ◌≤◌
 ghost use Rattle.columns.specs.Column.{col};
 ghost use Rattle.dayformat.specs.Layout.{count, table_start};
 ghost use Rattle.dayrows.specs.Test.{keyed, lists};
-ghost use Rattle.dayruns.specs.Private.{Same, KeysInside};
+ghost use Rattle.dayruns.specs.Private.{KeysInside};
 
 use dayformat::{Counts, POINT_COLUMNS, SHIPPER_COLUMNS, Tag, count_of, form_of, row_place};
 

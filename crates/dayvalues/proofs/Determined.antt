@@ -9,6 +9,7 @@ use Rattle.dayvalues.specs.declared.column.ShipperColumn.{ShipperColumn}
 use Rattle.dayvalues.specs.Column.{ColumnAnswered}
 use Rattle.units.specs.declared.refusal.Refusal.{Refusal}
 
-pub column_determined : {counts : Counts} {numbers : List ℕ} {which : ShipperColumn} {lent : List ℕ} {r₁ r₂ : Result ℕ Refusal} {l₁ l₂ : List ℕ}
+pub column_determined : {counts : Counts} {numbers : List ℕ} {which : ShipperColumn} {lent : List ℕ}
+    {r₁ r₂ : Result ℕ Refusal} {l₁ l₂ : List ℕ}
     → ColumnAnswered counts numbers which lent r₁ l₁ → ColumnAnswered counts numbers which lent r₂ l₂ → (r₁ ≡ r₂) × (l₁ ≡ l₂)
 column_determined a b = (determined a.answers b.answers, determined a.leaves b.leaves)

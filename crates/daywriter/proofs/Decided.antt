@@ -37,7 +37,8 @@ unfolding written_check sound
 written_numbered day numbers room =
     none and kept_by _ 9 tt tt and singles_numbered day and rows_numbered day.counts _ and kept_by _ 7 tt tt
 
-pub written_decided : {day : Day} {numbers lent after : List ℕ} {written : Result ℕ Refusal} → WrittenAnswered day numbers lent after written
+pub written_decided : {day : Day} {numbers lent after : List ℕ} {written : Result ℕ Refusal}
+    → WrittenAnswered day numbers lent after written
     → Decided (written_check day numbers (length lent)) (file_size day.counts) 0 (written_verdict written)
 written_decided {day} {numbers} {lent} A =
     decided written_answer written_verdict refl (λ refusal. refl) (written_numbered day numbers (length lent)) A.answers

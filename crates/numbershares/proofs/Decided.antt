@@ -25,7 +25,8 @@ unfolding numbers_check
 numbers_numbered day numbers firm auction lower_tier =
     none and kept_by _ 9 tt tt and counts_numbered day.counts and check_numbered (table_of day (col numbers)) _ _ _
 
-module _ {day : Day} {numbers firm auction lower_tier : List ℕ} {answered : Result Shares Refusal} {firm_after auction_after lower_tier_after : List ℕ}
+module _ {day : Day} {numbers firm auction lower_tier : List ℕ} {answered : Result Shares Refusal}
+    {firm_after auction_after lower_tier_after : List ℕ}
     (A : NumbersAnswered day numbers firm auction lower_tier answered firm_after auction_after lower_tier_after) where
   pub numbers_decided :
       Decided (numbers_check day numbers (length firm) (length auction) (length lower_tier)) (day_shares (table_of day (col numbers)))

@@ -23,7 +23,8 @@ hour_numbered h entitlements mdqs room =
     and kept_by _ 6 tt tt
     and kept_by _ 7 tt tt
 
-pub hour_decided : {h : ℕ} {entitlements mdqs lent after : List ℕ} {hour : Result Megajoules Refusal} → HourAnswered h entitlements mdqs lent hour after
+pub hour_decided : {h : ℕ} {entitlements mdqs lent after : List ℕ} {hour : Result Megajoules Refusal}
+    → HourAnswered h entitlements mdqs lent hour after
     → Decided (hour_check h entitlements mdqs (length lent)) (hour_given h entitlements mdqs) (record { 0 = 0 }) (hour_verdict hour)
 hour_decided {h} {entitlements} {mdqs} {lent} A =
     decided hour_answer hour_verdict refl (λ refusal. refl) (hour_numbered h entitlements mdqs (length lent)) A.answers

@@ -15,7 +15,8 @@ use Rattle.pointshares.proofs.Decided.{hour_decided}
 use Rattle.units.specs.declared.Megajoules.{Megajoules}
 use Rattle.units.specs.declared.refusal.Refusal.{Refusal}
 
-pub hour-kept : {h : ℕ} {entitlements mdqs lent after : List ℕ} {hour : Result Megajoules Refusal} → HourAnswered h entitlements mdqs lent hour after
+pub hour-kept : {h : ℕ} {entitlements mdqs lent after : List ℕ} {hour : Result Megajoules Refusal}
+    → HourAnswered h entitlements mdqs lent hour after
     → (hour_verdict hour).number ≡ 0 → HourKept h entitlements lent hour after
 hour-kept {h} {entitlements} {mdqs} {lent} {after} A zero =
     let accepted = (hour_decided A).exactly zero in

@@ -6,7 +6,7 @@ use units::{
     MOST_GIGAJOULES, MOST_HOUR, MOST_ROWS, Refusal, gigajoules_within, keep, megajoules_within,
 };
 
-// The first of an hour's tests that the input fails, with room for so many shares. What is untested stands apart; tested, it is a `Sharing`.
+// The first of an hour's tests that the input fails, with room for so many shares. What is untested stands apart; then it is a `Sharing`.
 #[tactic(auto, unfolding(crate::specs::Answer::hour_check, units::specs::Refusals::first_refusal))]
 pub fn examine(
     capacity: u64,

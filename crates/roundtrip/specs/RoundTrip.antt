@@ -32,7 +32,8 @@ FileAgain =
 -- what is written, read again into a block with room, is the day
 abbrev pub DayAgain : Type 0
 DayAgain =
-    (numbers block bytes lent after : List ℕ) (day : Day) (written : Result ℕ Refusal) (size : ℕ) (reading : Result Day Refusal) → day.head.day < 2 ^ 32
+    (numbers block bytes lent after : List ℕ) (day : Day) (written : Result ℕ Refusal) (size : ℕ)
+    (reading : Result Day Refusal) → day.head.day < 2 ^ 32
     → WrittenAnswered day numbers block bytes written → (written_verdict written).number ≡ 0 → (written_verdict written).figures ≡ size
     → ReadingAnswered (take size bytes) lent after reading → numbers_in day.counts ≤ length lent
     → ((reading_verdict reading).number ≡ 0) × ((reading_verdict reading).figures ≡ day) × (take (numbers_in day.counts) after ≡ numbers)

@@ -37,7 +37,8 @@ general_decided {sug} {fssug} {foundation} {schedules} {lent} A =
     decided gas_answer gas_verdict refl (λ refusal. refl) (general_numbered sug fssug foundation schedules (length lent)) A.answers
 
 -- nobody is excepted, and FSSUG is zero
-pub heater_decided : {sug : ℕ} {schedules lent after : List ℕ} {gas : Result Megajoules Refusal} → HeaterAnswered sug schedules lent gas after
+pub heater_decided : {sug : ℕ} {schedules lent after : List ℕ} {gas : Result Megajoules Refusal}
+    → HeaterAnswered sug schedules lent gas after
     → Decided (general_check sug 0 nobody schedules (length lent)) (general_given sug 0 nobody schedules) (record { 0 = 0 })
     (gas_verdict gas)
 heater_decided A = general_decided A

@@ -37,7 +37,8 @@ gas_verdict (Ok g) = accepting g
 gas_verdict (Err x) = refusing x (record { 0 = 0 })
 
 -- the statement of `share_general`: its answer, and the lent list before and after
-pub record GasAnswered (sug fssug foundation : ℕ) (schedules lent : List ℕ) (gas : Result Megajoules Refusal) (after : List ℕ) : Type 0 where
+pub record GasAnswered (sug fssug foundation : ℕ) (schedules lent : List ℕ) (gas : Result Megajoules Refusal) (after : List ℕ)
+    : Type 0 where
   pub answers : gas ≡ gas_answer (general_check sug fssug foundation schedules (length lent)) (general_given sug fssug foundation schedules)
   pub leaves :
       after

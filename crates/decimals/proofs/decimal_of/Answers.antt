@@ -15,5 +15,6 @@ pub returns : goal.returns
 unfolding word_check first_refusal
 returns c =
     let within : c.value_up_to-number.result ≤ c.args.most = at_most _ c.keep-3.ensures c.in_ok-keep-3.was in
-    let is : c.value_up_to-number.result ≡ value c.args.word.now = same_number _ _ c.value_up_to-number.ensures (omega (arith, within, c.value_up_to-number.ensures)) in
+    let is : c.value_up_to-number.result ≡ value c.args.word.now =
+    same_number _ _ c.value_up_to-number.ensures (omega (arith, within, c.value_up_to-number.ensures)) in
     search rules

@@ -29,6 +29,7 @@ returns c =
     (λ yes. (
       c.if-not-see_entry_row.false,
       refl,
-      entry_named _ _ _ (placed_as _ _ _ c.requires c.args.field.now.placed).0 (names.0 c.if-counts-found.false) (names.1 (ltb-true _ _ yes)),
+      entry_named _ _ _ (placed_as _ _ _ c.requires c.args.field.now.placed).0 (names.0 c.if-counts-found.false)
+          (names.1 (ltb-true _ _ yes)),
       uncapped _ _ Entry _ refl,
     ))

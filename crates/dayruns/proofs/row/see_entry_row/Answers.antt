@@ -19,8 +19,10 @@ pub read_entry-read-requires : goal.read_entry-read-requires
 read_entry-read-requires c = ready-room _ _ _ _ true _ (c.is_ready.ensures c.if-not-is_ready.false)
 
 pub is_next-requires : goal.is_next-requires
-is_next-requires c =
-    ((placed_as _ _ _ c.requires c.args.field.now.placed).0, omega (arith, (c.is_ready.ensures c.if-not-is_ready.false).1, c.read_entry-read.auto.numbers))
+is_next-requires c = (
+  (placed_as _ _ _ c.requires c.args.field.now.placed).0,
+  omega (arith, (c.is_ready.ensures c.if-not-is_ready.false).1, c.read_entry-read.auto.numbers),
+)
 
 pub returns : goal.returns
 unfolding some_idle

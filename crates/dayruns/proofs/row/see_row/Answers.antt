@@ -24,5 +24,5 @@ is_fed-requires c = omega (arith, (c.is_ready.ensures c.if-not-is_ready.false).1
 
 pub returns : goal.returns
 returns c =
-    row_read _ _ _ _ _ _ c.args.field.now.placed.0 (c.is_ready.ensures c.if-not-is_ready.false) c.read_body-kept.ensures c.is_next-next.ensures
-    c.is_fed.ensures (c.both-2.ensures ∙ rw c.both.ensures)
+    row_read _ _ _ _ _ _ c.args.field.now.placed.0 (c.is_ready.ensures c.if-not-is_ready.false) c.read_body-kept.ensures
+    c.is_next-next.ensures c.is_fed.ensures (c.both-2.ensures ∙ rw c.both.ensures)

@@ -11,5 +11,7 @@ use Rattle.daywriter.proofs.examine.examine_tables.Given as goal
 abbrev pub invariant-loop-place : goal.invariant-loop-place
 invariant-loop-place l =
     each l.place
-    (λ place. clear (count l.tables.counts (tag_at place)) (first_failing l.test l.tables.counts (col l.tables.numbers.now) (tag_at place)) l.number)
+    (λ place.
+    clear (count l.tables.counts (tag_at place)) (first_failing l.test l.tables.counts (col l.tables.numbers.now) (tag_at place))
+    l.number)
     ≡ Ok tt

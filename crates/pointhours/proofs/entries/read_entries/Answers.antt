@@ -28,5 +28,6 @@ returns c =
       filling_all _ _ _ _ _ now.invariant.0 now.auto.entry-end c.loop-entry-test.false
           ∙ ap (λ many. with_zeros many (entitlement_in args.part.now)) c.entries_in-many.ensures.0,
       filling_all _ _ _ _ _ now.invariant.1 now.auto.entry-end c.loop-entry-test.false
-          ∙ ap (λ many. with_zeros many (mdq_in args.tables.counts (col args.tables.numbers.now) args.part.now)) c.entries_in-many.ensures.0,
+          ∙ ap (λ many. with_zeros many (mdq_in args.tables.counts (col args.tables.numbers.now) args.part.now))
+          c.entries_in-many.ensures.0,
     )
