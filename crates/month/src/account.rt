@@ -2,7 +2,7 @@
 ghost use Rattle.std.specs.Prelude.{◌≡◌};
 ghost use Rattle.lines.specs.Answer.{ListingAnswered};
 ghost use Rattle.month.specs.Account.{no_days, account_check, take_in};
-ghost use Rattle.month.specs.Total.{account_sums, total_up};
+ghost use Rattle.month.specs.Total.{total_up};
 ghost use Rattle.month.specs.Statement.{statement, ClosingAnswered};
 
 use crate::examine::{examine_account, examine_next};
@@ -85,8 +85,8 @@ impl Account {
         }
     }
 
-    // Totals up. The account comes back as it was.
-    pub fn total_up(self) -> Totalled
+    // Totals up: from the last day to the first each is taken off and added. The account comes back as it was.
+    pub fn total_up(mut self) -> Totalled
         ensures { result ≡ total_up self }
     {
         let account = self;
@@ -96,9 +96,14 @@ impl Account {
                 total: Err(refusal),
             };
         }
+        let mut sums = NO_FIGURES;
+        for last in (0..self.count).rev() {
+            sums = plus(sums, self.days[last].figures);
+            self.count = last;
+        }
         Totalled {
             account,
-            total: Ok(sum_up(account)),
+            total: Ok(sums),
         }
     }
 
@@ -126,16 +131,4 @@ fn list_account(account: Account, lent: &mut [u8]) -> Result<usize, Refusal>
 {
     let sums = account.total_up().total?;
     list_statement(account, sums, lent)
-}
-
-// The sums over a sound account's days.
-fn sum_up(account: Account) -> Figures
-    requires { account_check account ≡ Ok tt }
-    ensures { result ≡ account_sums account }
-{
-    let mut sums = NO_FIGURES;
-    for day in &account.days[..account.count] {
-        sums = plus(sums, day.figures);
-    }
-    sums
 }

@@ -39,14 +39,11 @@ pub fn put_hour(
         text.old at result text.new) × (result ≤ 2 ^ 20) }
 {
     let many = entries_in(part);
-    let entries = read_entries(tables, part);
+    let mut entitlements = [0u64; MOST_ENTRIES];
+    let mut mdqs = [0u32; MOST_ENTRIES];
+    read_entries(tables, part, &mut entitlements, &mut mdqs);
     let mut shares = [0u64; MOST_ENTRIES];
-    let shared = share_hour(
-        capacity,
-        &entries.entitlements[..many],
-        &entries.mdqs[..many],
-        &mut shares,
-    );
+    let shared = share_hour(capacity, &entitlements[..many], &mdqs[..many], &mut shares);
     match shared {
         Err(refusal) => put_refusal(refusal, text, at),
         Ok(_) => put_shares(part, &shares, text, at.min(text.len())),

@@ -11,16 +11,16 @@ use Rattle.sharing.proofs.Parts.{Spent, parts_spent}
 use Rattle.pointshares.specs.Share.{share}
 
 module _ (n : ℕ) (re mdq : ℕ → ℕ) (h : ℕ) where
-  share_alone : n < 2 → (i : ℕ) → share n re mdq h i ≡ h
+  pub share_alone : n < 2 → (i : ℕ) → share n re mdq h i ≡ h
   unfolding share
   share_alone few i = rw (lt-ltb n 2 few)
 
   module _ (two : 2 ≤ n) where
-    share-over : h < sum n re → (i : ℕ) → share n re mdq h i ≡ part n re h i
+    pub share-over : h < sum n re → (i : ℕ) → share n re mdq h i ≡ part n re h i
     unfolding share
     share-over over i = rw (le-ltb n 2 two, lt-ltb h (sum n re) over)
 
-    share-beyond : sum n re ≤ h → (i : ℕ) → share n re mdq h i ≡ re i + part n mdq (h - sum n re) i
+    pub share-beyond : sum n re ≤ h → (i : ℕ) → share n re mdq h i ≡ re i + part n mdq (h - sum n re) i
     unfolding share
     share-beyond within i = rw (le-ltb n 2 two, le-ltb h (sum n re) within)
 

@@ -1,10 +1,10 @@
 use mathlib.Core.Path.{ap, ◌∙◌}
 use Prim.Native.Nat.{min}
-use Rattle.columns.specs.Column.{col}
+use lib.Seq.{sets}
+use Rattle.columns.specs.Column.{col, listed}
 use Rattle.columns.proofs.Lists.{filling_none, filling_next, filling_all}
 use Rattle.pointhours.specs.HourText.{firm_mdq}
 use Rattle.pointhours.specs.Parts.{most_number, entitlement_in, mdq_in}
-use Rattle.pointhours.specs.Private.{with_zeros}
 use Rattle.pointhours.proofs.entries.read_entries.Goals as goal
 
 pub loop-entry-init : goal.loop-entry-init
@@ -24,10 +24,13 @@ loop-entry-preserved c =
 pub returns : goal.returns
 returns c =
     let now = c.loop-entry in
-    let args = c.args in (
-      filling_all _ _ _ _ _ now.invariant.0 now.auto.entry-end c.loop-entry-test.false
-          ∙ ap (λ many. with_zeros many (entitlement_in args.part.now)) c.entries_in-many.ensures.0,
-      filling_all _ _ _ _ _ now.invariant.1 now.auto.entry-end c.loop-entry-test.false
-          ∙ ap (λ many. with_zeros many (mdq_in args.tables.counts (col args.tables.numbers.now) args.part.now))
-          c.entries_in-many.ensures.0,
-    )
+    let args = c.args in
+    record {
+      entitlements =
+          filling_all _ _ _ _ _ now.invariant.0 now.auto.entry-end c.loop-entry-test.false
+          ∙ ap (λ many. sets args.entitlements.now 0 (listed many (entitlement_in args.part.now))) c.entries_in-entry-end.ensures.0;
+      mdqs =
+          filling_all _ _ _ _ _ now.invariant.1 now.auto.entry-end c.loop-entry-test.false
+          ∙ ap (λ many. sets args.mdqs.now 0 (listed many (mdq_in args.tables.counts (col args.tables.numbers.now) args.part.now)))
+          c.entries_in-entry-end.ensures.0;
+    }
