@@ -1,4 +1,4 @@
--- The tests decide an answer of `read_day`: a file's walk finds a fault at a byte of a full day's file, or nothing, and then
+-- The tests decide an answer of `read_day`: a file's walk finds one of 1 to 5 at a byte of a full day's file, or nothing, and then
 -- the block's room is tested.
 use Rattle.std.specs.Prelude.{Result}
 use mathlib.Core.Path.{refl}
@@ -10,7 +10,7 @@ use Rattle.units.proofs.Places.{PlacedTo, ◌then_if◌, plainly}
 use Rattle.units.proofs.Verdicts.{AllNumbered, ◌and◌, kept_by, decided}
 use Rattle.dayformat.specs.Layout.{no_rows}
 use Rattle.dayruns.specs.Walk.{file_check}
-use Rattle.dayruns.proofs.Decided.{refuses_walk, walk_numbered}
+use Rattle.dayruns.proofs.Decided.{refuses_walk, walk_numbered, known-numbered}
 use Rattle.dayfile.specs.File.{walked}
 use Rattle.dayfile.specs.Answer.{reading_check, day_of, reading_answer, reading_verdict, ReadingAnswered}
 use Rattle.dayfile.proofs.Reaching.{most_file, walked_reached}
@@ -19,10 +19,10 @@ use Rattle.units.specs.declared.refusal.Refusal.{Refusal}
 
 -- ---- for callers: what a file's own refusal has
 pub file_numbered : (file : List ℕ) → AllNumbered (file_check (walked file))
-file_numbered file = walk_numbered (walked file)
+file_numbered file = walk_numbered (walked file) (known-numbered (walked_reached file).fault)
 
 pub file-placed : (file : List ℕ) → PlacedTo most_file (file_check (walked file))
-file-placed file = refuses_walk _ (walked file) (λ fault. (walked_reached file).place)
+file-placed file = refuses_walk _ (walked file) (λ fault is. (walked_reached file).place)
 
 -- ---- the reader
 reading_numbered : (file : List ℕ) (room : ℕ) → AllNumbered (reading_check file room)

@@ -19,11 +19,12 @@ use Rattle.dayformat.proofs.Layouts.{most-count, few-none, few_with, few_fit}
 use Rattle.dayruns.specs.declared.walk.Walk.{Walk}
 use Rattle.dayruns.specs.Run.{rows_of, stops}
 use Rattle.dayruns.specs.Walk.{walk_after}
-use Rattle.dayruns.proofs.Decided.{ended-has}
-use Rattle.dayfile.specs.File.{Tables, fields_from, head_fault, headed, table_run, tabled, tables_to, tables, walked}
+use Rattle.dayruns.proofs.Decided.{Known, field-known, run-known, ended-has}
+use Rattle.dayfile.specs.File.{Tables, fields_from, head_fields, head_fault, headed, table_run, tabled, tables_to, tables, walked}
 
 -- a walk that has come no further than a byte
 pub record Reached (most : ℕ) (walk : Walk) : Type 0 where
+  pub fault : Known walk.found
   pub place : walk.place ≤ most
   pub few : Few walk.counts
 
@@ -31,6 +32,7 @@ headed_reached : (file : List ℕ) → Reached (field_size Head) (headed file)
 unfolding headed
 headed_reached file =
     record {
+      fault = field-known (head_fields file) (λ rows. col (rows_of (head_fields file) rows)) 0;
       place = by (is_ok (head_fault file));
       few = few-none;
     }
@@ -64,18 +66,20 @@ tabled_reached file n l T {most} R = by (is_ok T.walk.found)
     by : (sound : Bool) → Reached (most + (form tag).most * field_size tag) (cond sound more T).walk
     by true =
         record {
+          fault = run-known (fields_from file T.walk tag) read;
           place = omega (arith, R.place, mul-le-mul_right (field_size tag) few-rows);
           few = few_with n l T.walk.counts (table_run file tag T).rows R.few few-rows;
         }
-    by false = record { place = omega (arith, R.place); few = R.few }
+    by false = record { fault = R.fault; place = omega (arith, R.place); few = R.few }
 
 -- the runs of so many tags, in a full day's file
 reached_to : (file : List ℕ) (n : ℕ) → n ≤ many_tables → Reached (bytes_before most_counts n) (tables_to file n).walk
 unfolding tables_to sum
-reached_to file zero l = let R = headed_reached file in record { place = omega (arith, R.place); few = R.few }
+reached_to file zero l = let R = headed_reached file in record { fault = R.fault; place = omega (arith, R.place); few = R.few }
 reached_to file (suc n) l =
     let R = tabled_reached file n l (tables_to file n) (reached_to file n (omega (arith, l))) in
     record {
+      fault = R.fault;
       place = omega (arith, R.place, ap (λ rows. rows * field_size (tag_at n)) (most-count n l));
       few = R.few;
     }
@@ -91,13 +95,13 @@ full-day = refl
 tables_reached : (file : List ℕ) → Reached most_file (tables file).walk
 tables_reached file =
     let R = reached_to file many_tables (omega arith) in
-    record { place = omega (arith, R.place, full-day); few = R.few }
+    record { fault = R.fault; place = omega (arith, R.place, full-day); few = R.few }
 
 -- what follows the last field is told where it begins
 pub walked_reached : (file : List ℕ) → Reached most_file (walked file)
 walked_reached file =
     let R = tables_reached file in
-    ended-has (Reached most_file) file (tables file).walk R (λ fault. record { place = R.place; few = R.few })
+    ended-has (Reached most_file) file (tables file).walk R (λ fault known. record { fault = known; place = R.place; few = R.few })
 
 -- and its numbers
 abbrev pub full_room : ℕ

@@ -11,6 +11,8 @@ pub enum Fault {
     Beyond,
     Key,
     Mdq,
+    // Any other number: a `Walk` can be made by hand, with any. No field is refused by it.
+    Other(u8),
 }
 
 impl Fault {
@@ -24,6 +26,7 @@ impl Fault {
             Fault::Beyond => 3,
             Fault::Mdq => 4,
             Fault::Key => 5,
+            Fault::Other(number) => number,
         }
     }
 }
