@@ -10,7 +10,7 @@ pub fn answer_reading<W: Write>(out: &mut W, given: &[u8]) -> Result<()> {
     let room = word_within(given, 0, MOST_NUMBERS);
     let reading = dayfile::read_day(bytes(past(given, 1)), &mut lent[..room]);
     put_answer(out, b"read_day", reading.map(figures_of))?;
-    put_written_numbers(out, &lent[..room])
+    put_written_numbers(out, &lent, room)
 }
 
 fn figures_of(day: Day) -> [u64; 8] {
@@ -33,13 +33,20 @@ pub fn answer_writing<W: Write>(out: &mut W, given: &[u8]) -> Result<()> {
     let room = word_within(given, 8, MOST_BYTES);
     let halves = past(given, 9);
     let lower = bytes(halves);
-    let numbers = numbers_of(bytes(past_bytes(halves)), lower);
     let count = (lower.len() / 4).min(MOST_NUMBERS);
-    let written = daywriter::write_day(day_of(given), &numbers[..count], &mut lent[..room]);
-    put_text(out, b"write_day", written, &lent[..room])
+    let mut numbers = [0; MOST_NUMBERS];
+    let written = daywriter::write_day(
+        day_of(given),
+        numbers_of(bytes(past_bytes(halves)), lower, &mut numbers[..count]),
+        &mut lent[..room],
+    );
+    put_text(out, b"write_day", written, &lent, room)
 }
 
-// The numbers of 64 bits of which two lists of words have the halves.
-fn numbers_of(higher: &[u8], lower: &[u8]) -> [usize; MOST_NUMBERS] {
-    std::array::from_fn(|place| of_halves(higher, lower, place))
+// The numbers of 64 bits of which two lists of words have the halves, laid in a lent block of so many.
+fn numbers_of<'a>(higher: &[u8], lower: &[u8], lent: &'a mut [usize]) -> &'a [usize] {
+    for (place, number) in lent.iter_mut().enumerate() {
+        *number = of_halves(higher, lower, place);
+    }
+    lent
 }

@@ -17,22 +17,43 @@ pub const MOST_NUMBERS: usize = dayformat::MOST_NUMBERS + 1;
 pub const MOST_BYTES: usize = dayformat::MOST_BYTES + 1;
 
 // What was written to a block of numbers, and how many stay; below the same of bytes, which print otherwise.
-pub fn put_written_numbers<W: Write>(out: &mut W, lent: &[usize]) -> Result<()> {
-    let written = written(lent, LENT_NUMBER);
+pub fn put_written_numbers<W: Write>(
+    out: &mut W,
+    lent: &[usize; MOST_NUMBERS],
+    room: usize,
+) -> Result<()> {
+    let written = written_numbers(lent, room);
     put_list(out, &lent[..written])?;
-    put_kept(out, lent.len() - written)
+    put_kept(out, room - written)
 }
 
 // Bytes in hexadecimal.
-pub fn put_written_bytes<W: Write>(out: &mut W, lent: &[u8]) -> Result<()> {
-    let written = written(lent, LENT_BYTE);
+pub fn put_written_bytes<W: Write>(
+    out: &mut W,
+    lent: &[u8; MOST_BYTES],
+    room: usize,
+) -> Result<()> {
+    let written = written_bytes(lent, room);
     put_block(out, &lent[..written])?;
-    put_kept(out, lent.len() - written)
+    put_kept(out, room - written)
 }
 
 fn put_kept<W: Write>(out: &mut W, count: usize) -> Result<()> {
     out.write_all(b" kept")?;
     put_figures(out, &[count])
+}
+
+// Of a block with so much room. The numbers and the bytes of a full day and one more, so that the constants are held to these.
+fn written_numbers(lent: &[usize; MOST_NUMBERS], room: usize) -> usize
+    ensures { (result ≤ room) × (result ≤ 10721) }
+{
+    written(&lent[..room.min(MOST_NUMBERS)], LENT_NUMBER)
+}
+
+fn written_bytes(lent: &[u8; MOST_BYTES], room: usize) -> usize
+    ensures { (result ≤ room) × (result ≤ 40976) }
+{
+    written(&lent[..room.min(MOST_BYTES)], LENT_BYTE)
 }
 
 // How many elements there are up to the last that is not as it was lent.

@@ -9,10 +9,11 @@ pub fn put_text<W: Write>(
     out: &mut W,
     routine: &[u8],
     listing: Result<usize, Refusal>,
-    lent: &[u8],
+    lent: &[u8; MOST_BYTES],
+    room: usize,
 ) -> io::Result<()> {
     put_answer(out, routine, listing.map(|size| [size as u64]))?;
-    put_written_bytes(out, lent)
+    put_written_bytes(out, lent, room)
 }
 
 pub fn answer_refusal<W: Write>(out: &mut W, given: &[u8]) -> io::Result<()> {
@@ -23,14 +24,14 @@ pub fn answer_refusal<W: Write>(out: &mut W, given: &[u8]) -> io::Result<()> {
         place: wide(given, 1) as usize,
     };
     let line = lines::refusal_line(refusal, &mut lent[..room]);
-    put_text(out, b"refusal_line", line, &lent[..room])
+    put_text(out, b"refusal_line", line, &lent, room)
 }
 
 pub fn answer_shares<W: Write>(out: &mut W, given: &[u8]) -> io::Result<()> {
     let mut lent = [LENT_BYTE; MOST_BYTES];
     let room = word_within(given, 0, MOST_BYTES);
     let listing = sharelisting::list_shares(bytes(past(given, 1)), &mut lent[..room]);
-    put_text(out, b"list_shares", listing, &lent[..room])
+    put_text(out, b"list_shares", listing, &lent, room)
 }
 
 pub fn answer_charges<W: Write>(out: &mut W, given: &[u8]) -> io::Result<()> {
@@ -38,12 +39,12 @@ pub fn answer_charges<W: Write>(out: &mut W, given: &[u8]) -> io::Result<()> {
     let room = word_within(given, 1, MOST_BYTES);
     let rate = Rate(word(given, 0));
     let listing = chargelisting::list_charges(bytes(past(given, 2)), rate, &mut lent[..room]);
-    put_text(out, b"list_charges", listing, &lent[..room])
+    put_text(out, b"list_charges", listing, &lent, room)
 }
 
 pub fn answer_points<W: Write>(out: &mut W, given: &[u8]) -> io::Result<()> {
     let mut lent = [LENT_BYTE; MOST_BYTES];
     let room = word_within(given, 0, MOST_BYTES);
     let listing = pointlisting::list_points(bytes(past(given, 1)), &mut lent[..room]);
-    put_text(out, b"list_points", listing, &lent[..room])
+    put_text(out, b"list_points", listing, &lent, room)
 }

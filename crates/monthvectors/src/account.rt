@@ -1,5 +1,7 @@
 // A day and an account, as a case has them.
-ghost use Rattle.std.specs.Prelude.{◌≤◌};
+ghost use Rattle.std.specs.Prelude.{◌≡◌, ◌*◌, ◌≤◌, min};
+ghost use Rattle.cases.specs.Case.{past_words, word_at};
+ghost use Rattle.month.specs.Days.{most_days};
 
 use cases::{past, wide, word, word_within};
 use month::{Account, AccountDay, Figures, MOST_DAYS};
@@ -30,18 +32,20 @@ pub fn day_of(given: &[u8]) -> AccountDay {
 // What follows so many days.
 pub fn past_days(given: &[u8], days: usize) -> &[u8]
     requires { days ≤ 64 }
+    ensures { result.now ≡ past_words given.now (15 * days) }
 {
     past(given, DAY * days)
 }
 
 // How many of its days an account has told; the others are zeros.
 fn told_of(given: &[u8]) -> usize
-    ensures { result ≤ 31 }
+    ensures { (result ≤ 31) × (result ≡ min (word_at given.now 2) most_days) }
 {
     word_within(given, 2, MOST_DAYS)
 }
 
-// The account that stands first.
+// The account that stands first. Not inlined: the program would have room on its stack for one more at each call.
+#[inline(never)]
 pub fn account_of(given: &[u8]) -> Account {
     let mut account = Account::empty();
     account.count = wide(given, 0) as usize;
@@ -53,6 +57,8 @@ pub fn account_of(given: &[u8]) -> Account {
 }
 
 // What follows it.
-pub fn past_account(given: &[u8]) -> &[u8] {
+pub fn past_account(given: &[u8]) -> &[u8]
+    ensures { result.now ≡ past_words (past_words given.now 3) (15 * min (word_at given.now 2) most_days) }
+{
     past_days(past(given, DAYS), told_of(given))
 }

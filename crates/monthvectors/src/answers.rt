@@ -1,7 +1,8 @@
 // A line of the answers: 01's number and place, the figures, the lent block whole, and the account as it is afterwards.
-ghost use Rattle.std.specs.Prelude.{◌≤◌};
+ghost use Rattle.std.specs.Prelude.{◌+◌, ◌≤◌};
+ghost use Rattle.month.specs.Statement.{most_statement};
 
-use cases::{put_answer, put_block, put_figures, put_list, put_verdict};
+use cases::{put_answer, put_block, put_figures, put_list, put_verdict, word_within};
 use month::{Account, AccountDay, Closed, Figures, Taken, Totalled};
 use std::io::{self, Write};
 use units::Refusal;
@@ -11,6 +12,13 @@ pub const LENT_BYTE: u8 = 255;
 
 // No block has more room: one byte more than the longest statement. Blocks are arrays, for there is no heap.
 pub const MOST_ROOM: usize = month::MOST_STATEMENT + 1;
+
+// How many bytes are lent. By the definition, so that the constant is held to it.
+pub fn room_at(given: &[u8], place: usize) -> usize
+    ensures { result ≤ most_statement + 1 }
+{
+    word_within(given, place, MOST_ROOM)
+}
 
 // An account after a day was handed in.
 pub fn put_taken<W: Write>(out: &mut W, routine: &[u8], taken: Taken) -> io::Result<()> {

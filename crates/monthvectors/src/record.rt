@@ -1,7 +1,6 @@
 // The account where it is.
 use crate::account::{account_of, day_of, past_account};
-use crate::answers::{LENT_BYTE, MOST_ROOM, put_closed, put_taken, put_totalled};
-use cases::word_within;
+use crate::answers::{LENT_BYTE, MOST_ROOM, put_closed, put_taken, put_totalled, room_at};
 use month::{Account, AccountDay, Closed, Taken, Totalled};
 use std::io::{Result, Write};
 
@@ -15,7 +14,7 @@ pub fn answer_total_up<W: Write>(out: &mut W, given: &[u8]) -> Result<()> {
 }
 
 pub fn answer_close<W: Write>(out: &mut W, given: &[u8]) -> Result<()> {
-    let room = word_within(past_account(given), 0, MOST_ROOM);
+    let room = room_at(past_account(given), 0);
     let mut lent = [LENT_BYTE; MOST_ROOM];
     let closed = close(account_of(given), &mut lent[..room]);
     put_closed(out, b"record_close", closed, &lent[..room])

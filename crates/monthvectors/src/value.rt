@@ -1,7 +1,7 @@
 // The account by value.
 use crate::account::{account_of, day_of, past_account, past_days};
 use crate::answers::{
-    LENT_BYTE, MOST_ROOM, put_account, put_closed, put_taken, put_totalled, sums_of,
+    LENT_BYTE, MOST_ROOM, put_account, put_closed, put_taken, put_totalled, room_at, sums_of,
 };
 use cases::{past, put_answer, put_figures, put_list, word_within};
 use month::Account;
@@ -17,7 +17,7 @@ pub fn answer_total_up<W: Write>(out: &mut W, given: &[u8]) -> Result<()> {
 }
 
 pub fn answer_close<W: Write>(out: &mut W, given: &[u8]) -> Result<()> {
-    let room = word_within(past_account(given), 0, MOST_ROOM);
+    let room = room_at(past_account(given), 0);
     let mut lent = [LENT_BYTE; MOST_ROOM];
     let closed = account_of(given).close(&mut lent[..room]);
     put_closed(out, b"close", closed, &lent[..room])

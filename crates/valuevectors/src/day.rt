@@ -12,7 +12,7 @@ pub const LENT: u32 = 4_000_000_000;
 pub const MOST_ROWS: usize = 65;
 
 // No day has more numbers: one more than a full one.
-const MOST_NUMBERS: usize = dayformat::MOST_NUMBERS + 1;
+pub const MOST_NUMBERS: usize = dayformat::MOST_NUMBERS + 1;
 
 // What a routine is given: a day, its numbers, and what else the case has.
 #[derive(Clone, Copy)]
@@ -38,11 +38,15 @@ pub fn length_of(case: &[u8]) -> usize
     word_within(case, 8, MOST_NUMBERS)
 }
 
-pub fn numbers_of(case: &[u8]) -> [usize; MOST_NUMBERS] {
+// Its numbers, laid in a lent block of so many. `from_fn` would make all 10,721, and copy them twice.
+pub fn numbers_of<'a>(case: &[u8], lent: &'a mut [usize]) -> &'a [usize] {
     let halves = past(case, 9);
     let lower = bytes(halves);
     let higher = bytes(past_bytes(halves));
-    std::array::from_fn(|place| of_halves(higher, lower, place))
+    for (place, number) in lent.iter_mut().enumerate() {
+        *number = of_halves(higher, lower, place);
+    }
+    lent
 }
 
 // What follows the day.

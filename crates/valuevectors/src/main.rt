@@ -9,7 +9,7 @@ mod shippers;
 mod texts;
 
 use cases::{Answers, answer_cases, day_of, past, word};
-use day::{Given, length_of, numbers_of, past_day};
+use day::{Given, MOST_NUMBERS, length_of, numbers_of, past_day};
 use std::io::{Result, Write};
 
 // No case has more bytes: what a large buffer holds.
@@ -36,11 +36,10 @@ fn main(rt: HostRuntime) -> Result<()> {
 }
 
 fn answer_day<W: Write>(out: &mut W, routine: u32, case: &[u8]) -> Result<()> {
-    let numbers = numbers_of(case);
-    let day = day_of(case);
+    let mut lent = [0; MOST_NUMBERS];
     let given = Given {
-        day,
-        numbers: &numbers[..length_of(case)],
+        day: day_of(case),
+        numbers: numbers_of(case, &mut lent[..length_of(case)]),
         rest: past_day(case),
     };
     match routine {

@@ -1,5 +1,5 @@
 // An hour at a point, and system use gas.
-use crate::lists::{LENT, MOST_ROWS, list, past_list, wide_list};
+use crate::lists::{LENT, MOST_ROWS, MOST_WORDS, list, past_list, wide_list};
 use cases::{past, put_answer, put_list, wide, word, word_within};
 use std::io::{Result, Write};
 use units::{Gigajoules, Megajoules};
@@ -11,8 +11,8 @@ pub fn answer_hour<W: Write>(out: &mut W, given: &[u8]) -> Result<()> {
     let entitlements = past(given, 3);
     let hour = pointshares::share_hour(
         Megajoules(wide(given, 0)),
-        wide_list(entitlements).rows(),
-        list(past_list(entitlements)).rows(),
+        wide_list(entitlements, &mut [0; MOST_ROWS]),
+        list(past_list(entitlements), &mut [0; MOST_WORDS]).0,
         &mut shares[..room],
     );
     put_answer(out, b"share_hour", hour.map(|total| [total.0]))?;
@@ -26,7 +26,7 @@ pub fn answer_general<W: Write>(out: &mut W, given: &[u8]) -> Result<()> {
         Megajoules(wide(given, 0)),
         Megajoules(wide(given, 2)),
         wide(given, 4) as usize,
-        list(past(given, 7)).rows(),
+        list(past(given, 7), &mut [0; MOST_WORDS]).0,
         &mut shares[..room],
     );
     put_answer(out, b"share_general", gas.map(|total| [total.0]))?;
@@ -38,7 +38,7 @@ pub fn answer_heater<W: Write>(out: &mut W, given: &[u8]) -> Result<()> {
     let room = word_within(given, 2, MOST_ROWS);
     let gas = usegas::share_heater(
         Megajoules(wide(given, 0)),
-        list(past(given, 3)).rows(),
+        list(past(given, 3), &mut [0; MOST_WORDS]).0,
         &mut shares[..room],
     );
     put_answer(out, b"share_heater", gas.map(|total| [total.0]))?;

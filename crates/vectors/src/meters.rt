@@ -1,7 +1,7 @@
 // The overruns of a day.
 ghost use Rattle.std.specs.Prelude.{◌≤◌};
 
-use crate::lists::{past_list, wide_list};
+use crate::lists::{MOST_ROWS, past_list, wide_list};
 use cases::{past, put_answer, wide, word};
 use metered::Side;
 use overruns::{ExcusedHours, Overruns, ShipperDay};
@@ -49,8 +49,8 @@ pub fn answer_twelve_hourly<W: Write>(out: &mut W, given: &[u8]) -> Result<()> {
     let overrun = overruns::twelve_hourly_overrun(
         Gigajoules(word(given, 0)),
         Gigajoules(word(given, 1)),
-        wide_list(lists).rows(),
-        wide_list(past_list(lists)).rows(),
+        wide_list(lists, &mut [0; MOST_ROWS]),
+        wide_list(past_list(lists), &mut [0; MOST_ROWS]),
     );
     put_answer(out, b"twelve_hourly_overrun", overrun.map(|over| [over.0]))
 }

@@ -1,5 +1,5 @@
 // One sharing round, and a day's shares.
-use crate::lists::{LENT, MOST_ROWS, list, past_list};
+use crate::lists::{LENT, MOST_ROWS, MOST_WORDS, list, past_list};
 use cases::{figures_of, past, put_answer, put_list, word, word_within};
 use dayshares::Shares;
 use daytable::DayTable;
@@ -10,10 +10,14 @@ pub fn answer_round<W: Write>(out: &mut W, given: &[u8]) -> io::Result<()> {
     let mut shares = [LENT; MOST_ROWS];
     let room = word_within(given, 1, MOST_ROWS);
     let weights = past(given, 2);
+    let needs = past_list(weights);
+    let mut lent = [0; MOST_WORDS];
+    let (weights, rest) = list(weights, &mut lent);
+    let (needs, _) = list(needs, rest);
     let round = rounds::share_round(
         Gigajoules(word(given, 0)),
-        list(weights).rows(),
-        list(past_list(weights)).rows(),
+        weights,
+        needs,
         &mut shares[..room],
     );
     put_answer(
@@ -54,15 +58,21 @@ fn share_day(
     let firm_schedule = past_list(auction_mdq);
     let auction_schedule = past_list(firm_schedule);
     let lower_tier_schedule = past_list(auction_schedule);
+    let mut lent = [0; MOST_WORDS];
+    let (firm_mdq, rest) = list(firm_mdq, &mut lent);
+    let (auction_mdq, rest) = list(auction_mdq, rest);
+    let (firm_schedule, rest) = list(firm_schedule, rest);
+    let (auction_schedule, rest) = list(auction_schedule, rest);
+    let (lower_tier_schedule, _) = list(lower_tier_schedule, rest);
     dayshares::share_day(
         &DayTable {
             free_flow: Gigajoules(word(given, 0)),
             compressor: Gigajoules(word(given, 1)),
-            firm_mdq: list(firm_mdq).rows(),
-            auction_mdq: list(auction_mdq).rows(),
-            firm_schedule: list(firm_schedule).rows(),
-            auction_schedule: list(auction_schedule).rows(),
-            lower_tier_schedule: list(lower_tier_schedule).rows(),
+            firm_mdq,
+            auction_mdq,
+            firm_schedule,
+            auction_schedule,
+            lower_tier_schedule,
         },
         firm,
         auction,
