@@ -1,2 +1,4 @@
 pub mod Case
 pub mod Line
+pub mod Run
+pub mod Private

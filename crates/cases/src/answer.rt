@@ -18,7 +18,7 @@ impl Figure for u32 {
     ghost value = { λ n. n };
 
     fn figure(self) -> u64 {
-        self as u64
+        u64::from(self)
     }
 }
 

@@ -5,7 +5,9 @@ mod answer;
 mod case;
 mod day;
 
-ghost use Rattle.std.specs.Prelude.{◌≤◌, ⊤, length, IfOk, MatchOption};
+ghost use Rattle.std.specs.Prelude.{◌≤◌, ⊤, length, IfOk, OnOk, MatchOption};
+ghost use Rattle.cases.specs.Run.{ReadWhole};
+ghost use Rattle.cases.specs.Private.{TakesWord, TakesLast};
 
 pub use answer::{Figure, put_answer, put_block, put_figures, put_list, put_verdict};
 pub use case::{bytes, of_halves, past, past_bytes, wide, word, word_within};
@@ -24,7 +26,9 @@ pub fn answer_cases<A: Answers, R: Read, W: Write>(
     input: &mut R,
     out: &mut W,
     lent: &mut [u8],
-) -> io::Result<()> {
+) -> io::Result<()>
+    ensures { OnOk result (ReadWhole (R.remaining input.old) (R.remaining input.new)) }
+{
     for _ in 0..u64::MAX {
         let Some(size) = read_case(input, lent)? else {
             return Ok(());
@@ -38,7 +42,10 @@ pub fn answer_cases<A: Answers, R: Read, W: Write>(
 // Reads the next case, where there is one, to the front of the lent block: how many words it has, then the words, each of four bytes.
 // Words that the input ends before are zero.
 fn read_case<R: Read>(input: &mut R, lent: &mut [u8]) -> io::Result<Option<usize>>
-    ensures { IfOk result (λ read. MatchOption read ⊤ (λ size. size ≤ length lent.new)) }
+    ensures bound { IfOk result (λ read. MatchOption read ⊤ (λ size. size ≤ length lent.new)) }
+    ensures taken { IfOk result (λ read. MatchOption read
+        (TakesLast (R.remaining input.old) (R.remaining input.new))
+        (λ size. TakesWord (R.remaining input.old) (R.remaining input.new))) }
 {
     let mut head = [0u8; 4];
     if streams::read_full(input, &mut head)? < 4 {

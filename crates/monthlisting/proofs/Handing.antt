@@ -9,7 +9,7 @@ use native.Mathlib.Omega.{arith}
 use borrow.Author.Tests.{leb-true}
 use lib.ListN.{length}
 use Rattle.units.specs.declared.refusal.Refusal.{Refusal}
-use Rattle.units.specs.Refusals.{at_row, placed}
+use Rattle.units.specs.Refusals.{placed, Check}
 use Rattle.units.specs.Each.{each}
 use Rattle.units.proofs.Checks.{no_acceptance, both-accepted, kept, placed-accepted, accepts-both, accepts-placed}
 use Rattle.units.proofs.Testing.{each-refused}
@@ -46,12 +46,13 @@ module _ (numbers : List ℕ) where
             accepted = rw add-one (accepts-both H.accepted (row-found ∙ accepts-placed row e));
           }
 
-      pub handing_stops : {refusal : Refusal} → taken.found ≡ Err refusal
-          → HandedIn numbers (record { account = A; found = Err (at_row refusal.number row) })
+      pub handing_stops : {refusal : Refusal} {there : Check} → taken.found ≡ Err refusal → there ≡ placed row taken.found
+          → HandedIn numbers (record { account = A; found = there })
       unfolding placed
-      handing_stops e =
+      handing_stops e is =
+          let stops = is ∙ ap (placed row) e in
           let refused = each-refused (month_row_check numbers) (days_in numbers) row l H.accepted (row-found ∙ ap (placed row) e) in
-          record { found = sym refused; account = λ accepted. no_acceptance accepted }
+          record { found = stops ∙ sym refused; account = λ accepted. no_acceptance (sym stops ∙ accepted) }
 
     pub handing_all : days_in numbers ≤ row → HandedIn numbers (record { account = A; found = Ok tt })
     handing_all l =

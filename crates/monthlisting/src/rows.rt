@@ -5,7 +5,7 @@ ghost use Rattle.monthlisting.specs.Rows.{row_number, row_day, days_in};
 ghost use Rattle.monthlisting.specs.Private.{RowTaken, HandedIn};
 
 use month::{Account, AccountDay, Figures, Taken};
-use units::{Cents, Megajoules, Refusal};
+use units::{Cents, Megajoules, Refusal, placed};
 
 // A day's number, then its seven figures.
 pub const ROW: usize = 8;
@@ -18,10 +18,10 @@ pub fn hand_in(numbers: &[u64]) -> Taken
     let mut account = Account::empty();
     for row in 0..rows {
         let taken = take_row(account, numbers, row);
-        if let Err(refusal) = taken.found {
+        if let Err(_) = taken.found {
             return Taken {
                 account,
-                found: Err(Refusal::at_row(refusal.number, row)),
+                found: placed(taken.found, row),
             };
         }
         account = taken.account;

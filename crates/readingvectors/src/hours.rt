@@ -1,20 +1,11 @@
 // The hours of a day, as a case has them.
-use cases::{past, put_list, put_verdict, wide, word};
+use cases::{past, put_answer, put_figures, put_list, wide, word};
 use metered::bare_hours;
-use readings::{DayGas, HourReading, bare_volumes, meter_day, reading_of};
+use readings::{HourReading, bare_volumes, gas_of, meter_day, reading_of};
 use std::io::{Result, Write};
-use units::{CubicMetres, Megajoules};
 
 // The words of an hour: its kind, then two for the bits of either number.
 const HOUR: usize = 5;
-
-// A refusal's figures are zeros.
-const NO_GAS: DayGas = DayGas {
-    energies: [Megajoules(0); 24],
-    volumes: [CubicMetres(0); 24],
-    energy: Megajoules(0),
-    volume: CubicMetres(0),
-};
 
 // The bits of infinity, and what 1 counts for in the bit of the sign.
 const INFINITE: u64 = 0x7ff0_0000_0000_0000;
@@ -24,12 +15,9 @@ const SIGN: u64 = 0x8000_0000_0000_0000;
 // Both sums, the energies and the volumes.
 pub fn answer_meter_day<W: Write>(out: &mut W, given: &[u8]) -> Result<()> {
     let day = meter_day(readings_of(given));
-    put_verdict(
-        out,
-        b"meter_day",
-        day.map(|gas| [gas.energy.0, gas.volume.0]),
-    )?;
-    let gas = day.unwrap_or(NO_GAS);
+    let gas = gas_of(day);
+    put_answer(out, b"meter_day", day.map(|_| []))?;
+    put_figures(out, &[gas.energy.0, gas.volume.0])?;
     put_list(out, &bare_hours(gas.energies))?;
     put_list(out, &bare_volumes(gas.volumes))
 }

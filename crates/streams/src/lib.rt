@@ -62,7 +62,7 @@ pub fn print_refusal<W: Write>(out: &mut W, refusal: Refusal) -> io::Result<()>
     ensures { OnOk result (Appends (W.contents out.old) (W.contents out.new) (refused refusal)) }
 {
     let mut line = [0u8; BUFFER];
-    let size = lines::put_refusal(refusal, &mut line, 0);
+    let size = lines::refusal_line(refusal, &mut line).unwrap_or(0);
     out.write_all(&line[..size])
 }
 

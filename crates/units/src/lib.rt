@@ -13,7 +13,7 @@ pub use bounds::{
     MOST_BACKHAUL, MOST_CAPACITY, MOST_CHARGEABLE, MOST_CPI, MOST_GIGAJOULES, MOST_HOUR,
     MOST_IMBALANCE, MOST_RATE, MOST_REQUESTS, MOST_ROWS, MOST_SYSTEM_USE,
 };
-pub use refusal::{Refusal, clear, gigajoules_within, keep, megajoules_within};
+pub use refusal::{Refusal, clear, gigajoules_within, keep, megajoules_within, placed};
 
 // Whole gigajoules: MDQs, schedules and capacities of a day.
 #[derive(Clone, Copy)]

@@ -1,5 +1,5 @@
 ghost use Rattle.std.specs.Prelude.{◌≡◌};
-ghost use Rattle.units.specs.Refusals.{plain, at_row, at_byte, keep, clear, within};
+ghost use Rattle.units.specs.Refusals.{plain, at_row, at_byte, keep, clear, within, placed};
 
 use crate::above::{first_gigajoules_above, first_megajoules_above};
 use crate::{Gigajoules, Megajoules};
@@ -57,6 +57,17 @@ pub fn clear(rows: usize, found: usize, number: u8) -> Result<(), Refusal>
         return Ok(());
     }
     Err(Refusal::at_row(number, found))
+}
+
+// A refusal told by its number at a row, whatever its place was.
+#[tactic(auto, unfolding(crate::specs::Refusals::placed))]
+pub fn placed(found: Result<(), Refusal>, row: usize) -> Result<(), Refusal>
+    ensures { result ≡ placed row found }
+{
+    match found {
+        Err(refusal) => Err(Refusal::at_row(refusal.number, row)),
+        Ok(()) => Ok(()),
+    }
 }
 
 // 3 at the lowest row of gigajoules beyond their bound.

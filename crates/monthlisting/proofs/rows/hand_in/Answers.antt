@@ -6,7 +6,7 @@ loop-row-init c = handing_none _ c.empty-account.ensures
 
 pub returns-in-Err : goal.returns-in-Err
 returns-in-Err c =
-    rw c.at_row.ensures (handing_stops _ c.loop-row.invariant c.loop-row-test.true c.take_row-taken.ensures c.in-Err.is)
+    handing_stops _ c.loop-row.invariant c.loop-row-test.true c.take_row-taken.ensures c.in-Err.is c.placed.ensures
 
 pub loop-row-preserved : goal.loop-row-preserved
 loop-row-preserved c =
