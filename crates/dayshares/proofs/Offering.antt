@@ -15,7 +15,7 @@ use Rattle.dayshares.specs.Class.{class_level, class_given}
 use Rattle.dayshares.specs.Private.{Held, Offered}
 
 -- n zeros before what stood past the first n are n zeros written to the front
-zeroed : (n : ℕ) (lent front : List ℕ) → n ≤ length lent → front ≡ replicate n 0 → front ++ drop n lent ≡ sets lent 0 (listed n (λ i. 0))
+pub zeroed : (n : ℕ) (lent front : List ℕ) → n ≤ length lent → front ≡ replicate n 0 → front ++ drop n lent ≡ sets lent 0 (listed n (λ i. 0))
 zeroed n lent front h e =
     let zeros : replicate n 0 ≡ listed n (λ i. 0) =
     ext_get_or 0 (replicate n 0) (listed n (λ i. 0)) (length-replicate {A = ℕ} n 0 ∙ sym (length-listed {X = ℕ} n (λ i. 0)))
@@ -29,12 +29,8 @@ module _ (c : ℕ) (ws qs lent : List ℕ) where
   offers held g lent' e H =
       record { level = rw (e, H.gives); total = rw (e, H.gives); leaves = rw e H.leaves }
 
-  pub withholds : (held : Bool) (front : List ℕ) → held ≡ false → length ws ≤ length lent → front ≡ replicate (length ws) 0
-      → Offered held c ws qs lent (record { level = 0; total = record { 0 = 0 } }) (front ++ drop (length ws) lent)
+  pub withholds : (held : Bool) (lent' : List ℕ) → held ≡ false → lent' ≡ sets lent 0 (listed (length ws) (λ i. 0))
+      → Offered held c ws qs lent (record { level = 0; total = record { 0 = 0 } }) lent'
   unfolding class_level class_given
-  withholds held front e room zeros =
-      record {
-        level = rw e;
-        total = rw e (omega (arith, sum_same (length ws) 0));
-        leaves = rw e (zeroed (length ws) lent front room zeros);
-      }
+  withholds held lent' e zeros =
+      record { level = rw e; total = rw e (omega (arith, sum_same (length ws) 0)); leaves = rw e zeros }
