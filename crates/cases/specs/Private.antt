@@ -6,6 +6,6 @@ use Rattle.std.specs.Io.KnownBytes.{Consumes, IsAtEnd}
 abbrev pub TakesWord : Option (List ℕ) → Option (List ℕ) → Type 0
 TakesWord before after = (bytes : List ℕ) × Consumes before after bytes × (4 ≤ length bytes)
 
--- what is left, less than a word
+-- what is left, to the end of it
 abbrev pub TakesLast : Option (List ℕ) → Option (List ℕ) → Type 0
 TakesLast before after = (bytes : List ℕ) × Consumes before after bytes × IsAtEnd after

@@ -15,7 +15,8 @@ use Rattle.dayshares.specs.Class.{class_level, class_given}
 use Rattle.dayshares.specs.Private.{Held, Offered}
 
 -- n zeros before what stood past the first n are n zeros written to the front
-pub zeroed : (n : ℕ) (lent front : List ℕ) → n ≤ length lent → front ≡ replicate n 0 → front ++ drop n lent ≡ sets lent 0 (listed n (λ i. 0))
+pub zeroed : (n : ℕ) (lent front : List ℕ) → n ≤ length lent → front ≡ replicate n 0
+    → front ++ drop n lent ≡ sets lent 0 (listed n (λ i. 0))
 zeroed n lent front h e =
     let zeros : replicate n 0 ≡ listed n (λ i. 0) =
     ext_get_or 0 (replicate n 0) (listed n (λ i. 0)) (length-replicate {A = ℕ} n 0 ∙ sym (length-listed {X = ℕ} n (λ i. 0)))

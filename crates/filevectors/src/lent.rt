@@ -43,7 +43,7 @@ fn put_kept<W: Write>(out: &mut W, count: usize) -> Result<()> {
     put_figures(out, &[count])
 }
 
-// Of a block with so much room. The numbers and the bytes of a full day and one more, so that the constants are held to these.
+// Of a block of which so much is lent; below the same of bytes. No more than a full day has and one: the constants are held to it.
 fn written_numbers(lent: &[usize; MOST_NUMBERS], room: usize) -> usize
     ensures { (result ≤ room) × (result ≤ 10721) }
 {

@@ -99,6 +99,7 @@ impl Account {
         let mut sums = NO_FIGURES;
         for last in (0..self.count).rev() {
             sums = plus(sums, self.days[last].figures);
+            // The days that are left, of which the invariant speaks.
             self.count = last;
         }
         Totalled {

@@ -64,10 +64,7 @@ pub fn clear(rows: usize, found: usize, number: u8) -> Result<(), Refusal>
 pub fn placed(found: Result<(), Refusal>, row: usize) -> Result<(), Refusal>
     ensures { result ≡ placed row found }
 {
-    match found {
-        Err(refusal) => Err(Refusal::at_row(refusal.number, row)),
-        Ok(()) => Ok(()),
-    }
+    found.map_err(|refusal| Refusal::at_row(refusal.number, row))
 }
 
 // 3 at the lowest row of gigajoules beyond their bound.

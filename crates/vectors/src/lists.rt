@@ -1,7 +1,7 @@
 // A list of a case: how many words it has, then the words, as far as there are any.
 use cases::{past, wide, word, word_within};
 
-// No case has more words, and so all its lists together. Lists are laid in arrays, for there is no heap.
+// No case has more words, so all its lists together have no more. They are laid in arrays, for there is no heap.
 pub const MOST_WORDS: usize = 512;
 
 // No list of 64 bits has more rows, and no lent list more room: one more than a list of shippers may have.

@@ -12,7 +12,8 @@ loop-row-init c = testing_none _ _
 pub returns-in_err-examine_later : goal.returns-in_err-examine_later
 returns-in_err-examine_later c =
     let p = err_from_is_err_and c.from_residual.result c.from_residual.ensures.1 in
-    rw (p.1, p.2) (stopping_at _ _ (sym c.loop-row.invariant.tests) c.loop-row-test.true (sym c.examine_later.ensures ∙ c.in_err-examine_later.was))
+    let here = sym c.examine_later.ensures ∙ c.in_err-examine_later.was in
+    rw (p.1, p.2) (stopping_at _ _ (sym c.loop-row.invariant.tests) c.loop-row-test.true here)
 
 pub loop-row-preserved : goal.loop-row-preserved
 unfolding first_refusal

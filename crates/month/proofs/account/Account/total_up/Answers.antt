@@ -1,5 +1,5 @@
 use mathlib.Core.Path.{◌≡◌, refl, sym, ap, subst, ◌∙◌}
-use Prim.Native.Nat.{ℕ, ◌-◌, ◌≤◌, ◌<◌}
+use Prim.Native.Nat.{◌-◌, ◌≤◌, ◌<◌}
 use native.Mathlib.Omega.{arith}
 use Rattle.std.specs.Prelude.{Ok}
 use Rattle.month.specs.Days.{most_days}
@@ -35,9 +35,10 @@ plus-sums-requires c =
 pub loop-last-preserved : goal.loop-last-preserved
 loop-last-preserved c =
     let now = c.loop-last in
-    let some : 0 < now.self.count = rw now.invariant.1 c.loop-last-test.true in (
+    let some : 0 < now.self.count = rw now.invariant.1 c.loop-last-test.true in
+    let added = c.plus-sums.ensures ∙ ap (λ n. plus now.sums (day_at now.self (n - 1)).figures) (sym now.invariant.1) in (
       subst (λ n. TakingOff c.args.self (record { days = now.self.days; count = n - 1 }) c.plus-sums.result) now.invariant.1
-          (off_next _ now.invariant.0 some (c.plus-sums.ensures ∙ ap (λ n. plus now.sums (day_at now.self (n - 1)).figures) (sym now.invariant.1))),
+          (off_next _ now.invariant.0 some added),
       refl,
     )
 
