@@ -43,7 +43,8 @@ fn put_kept<W: Write>(out: &mut W, count: usize) -> Result<()> {
     put_figures(out, &[count])
 }
 
-// Of a block of which so much is lent; below the same of bytes. No more than a full day has and one: the constants are held to it.
+// How many numbers of a block were written to, where so many are lent; below the same of bytes. The figures, one more than a full day
+// has, hold the constants.
 fn written_numbers(lent: &[usize; MOST_NUMBERS], room: usize) -> usize
     ensures { (result ≤ room) × (result ≤ 10721) }
 {

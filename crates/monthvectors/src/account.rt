@@ -44,7 +44,7 @@ fn told_of(given: &[u8]) -> usize
     word_within(given, 2, MOST_DAYS)
 }
 
-// The account that stands first. Not inlined: the program would have room on its stack for one more at each call.
+// The account that stands first. Not inlined, for the stack: else each caller has room for one more account.
 #[inline(never)]
 pub fn account_of(given: &[u8]) -> Account {
     let mut account = Account::empty();
